@@ -1,0 +1,5 @@
+pub mod Digits
+pub mod Packing
+pub mod Round
+pub mod Signs
+pub mod Table

@@ -1,0 +1,166 @@
+-- What holds of every row of the table, by one computed test over the whole of it.
+-- Assumes nothing.
+use Prim.Native.Nat.{ℕ, zero, suc, _+_, _*_, _/_, _^_, _≤_, _<_}
+use mathlib.Core.Path.{_≡_, refl, sym, _∙_}
+use mathlib.Core.Bool.{Bool, true, false}
+use mathlib.Core.List.{List, [], _∷_}
+use mathlib.Core.Logic.{_⊎_, inl, inr, ⊎-elim}
+use native.Mathlib.Nat.{le-of-suc-le-suc, not-suc-le-zero}
+use native.Mathlib.Omega.{arith}
+use lib.Dec.{T, leb, ltb, eqb, leb→le}
+use lib.ListN.{length}
+use lib.Pow.{pow-mono}
+use borrow.Author.Tests.{leb-true, ltb-true, eqb-true, eqb-false, ne-eqb}
+use Rattle.words.specs.declared.field.Field.{Field}
+use Rattle.words.specs.declared.field.Field.the-variants.{Bits, Only, Signed}
+use Rattle.words.specs.Fields.{both, either, total}
+use Rattle.words.specs.Table.{Row, row, Make, rows, Found, none, some, pickFound, find, rowOf}
+use Rattle.words.specs.Words.{byTopBits, command}
+
+pub both-left : (a b : Bool) → both a b ≡ true → a ≡ true
+unfolding both
+both-left true b h = refl
+both-left false b h = h
+
+pub both-right : (a b : Bool) → both a b ≡ true → b ≡ true
+unfolding both
+both-right true b h = h
+both-right false b h = cc
+
+pub both-of : {a b : Bool} → a ≡ true → b ≡ true → both a b ≡ true
+unfolding both
+both-of h k = rw h k
+
+pub both-true : (b : Bool) → both b true ≡ b
+unfolding both
+both-true true = refl
+both-true false = refl
+
+-- A top byte below 46 leaves 24 bits, the two top bits of a vertex 30; no command has more than five fields.
+topped : ℕ → ℕ → Bool
+topped code bits = either (both (ltb code 46) (leb bits 24)) (both (either (eqb code 0x40) (eqb code 0x80)) (leb bits 30))
+
+-- a signed field has a bit for the sign
+abbrev pub signs : Field → Bool
+signs (Bits k) = true
+signs (Only k m) = true
+signs (Signed k) = leb 1 k
+
+abbrev pub allSigns : List Field → Bool
+allSigns [] = true
+allSigns (f ∷ fs) = both (signs f) (allSigns fs)
+
+proper : Row → Bool
+proper (row code fs make) = both (both (leb (length fs) 5) (allSigns fs)) (topped code (total fs))
+
+allProper : List Row → Bool
+allProper [] = true
+allProper (r ∷ rs) = both (proper r) (allProper rs)
+
+rows-proper : allProper rows ≡ true
+unfolding allProper proper topped both either
+rows-proper = refl
+
+pub either-cases : (a b : Bool) → either a b ≡ true → (a ≡ true) ⊎ (b ≡ true)
+unfolding either
+either-cases true b h = inl refl
+either-cases false b h = inr h
+
+-- what `topped` tests
+top-cases : (code bits : ℕ) → topped code bits ≡ true → ((code < 46) × (bits ≤ 24)) ⊎ (((code ≡ 0x40) ⊎ (code ≡ 0x80)) × (bits ≤ 30))
+unfolding topped
+top-cases code bits h =
+    ⊎-elim
+    (λ a. inl (ltb-true _ _ (both-left _ _ a), leb-true _ _ (both-right _ _ a)))
+    (λ b. inr (vertex (either-cases _ _ (both-left _ _ b)), leb-true _ _ (both-right _ _ b)))
+    (either-cases _ _ h)
+  where
+    vertex : (eqb code 0x40 ≡ true) ⊎ (eqb code 0x80 ≡ true) → (code ≡ 0x40) ⊎ (code ≡ 0x80)
+    vertex v = ⊎-elim (λ e. inl (eqb-true _ _ e)) (λ e. inr (eqb-true _ _ e)) v
+
+-- what the test says of a row
+pub record Proper (n : ℕ) (fs : List Field) : Type 0 where
+  pub few : length fs ≤ 5
+  pub signed : allSigns fs ≡ true
+  pub low : n ≤ 128
+  pub narrow : total fs ≤ 30
+  pub place : ((n < 46) × (total fs ≤ 24)) ⊎ ((n ≡ 0x40) ⊎ (n ≡ 0x80))
+
+proper-row : (code : ℕ) (fs : List Field) (make : Make fs) → proper (row code fs make) ≡ true → Proper code fs
+unfolding proper
+proper-row code fs make p = record {
+  few = leb-true _ _ (both-left _ _ (both-left _ _ p));
+  signed = both-right _ _ (both-left _ _ p);
+  low = ⊎-elim (λ a. omega (arith, a .0)) (λ b. ⊎-elim (λ v. omega arith) (λ v. omega arith) (b .0)) cases;
+  narrow = ⊎-elim (λ a. omega (arith, a .1)) (λ b. b .1) cases;
+  place = ⊎-elim (λ a. inl a) (λ b. inr (b .0)) cases
+}
+  where
+    cases : ((code < 46) × (total fs ≤ 24)) ⊎ (((code ≡ 0x40) ⊎ (code ≡ 0x80)) × (total fs ≤ 30))
+    cases = top-cases code (total fs) (both-right _ _ p)
+
+-- the row that is found for n
+abbrev pub Sound : ℕ → Found → Type 0
+Sound n none = Unit {0}
+Sound n (some (row code fs make)) = Proper n fs
+
+sound-in : (rs : List Row) (n : ℕ) → allProper rs ≡ true → Sound n (find n rs)
+unfolding allProper
+sound-in [] n p = tt
+sound-in (row code fs make ∷ rs) n p = go (eqb n code) refl (sound-in rs n (both-right _ _ p))
+  where
+    go : (t : Bool) → eqb n code ≡ t → Sound n (find n rs) → Sound n (pickFound t (some (row code fs make)) (find n rs))
+    go true e rest = rw (eqb-true n code e) (proper-row code fs make (both-left _ _ p))
+    go false e rest = rest
+
+pub sound : (n : ℕ) → Sound n (rowOf n)
+sound n = sound-in rows n rows-proper
+
+no-code : (n code bits : ℕ) → topped code bits ≡ true → 46 ≤ n → (n ≡ 0x40 → ⊥) → (n ≡ 0x80 → ⊥) → n ≡ code → ⊥
+no-code n code bits t l h k e =
+    ⊎-elim
+    (λ a. omega (arith, a .0))
+    (λ b. ⊎-elim (λ v. h (e ∙ v)) (λ v. k (e ∙ v)) (b .0))
+    (top-cases code bits t)
+
+unlisted-in : (rs : List Row) (n : ℕ) → allProper rs ≡ true → 46 ≤ n → (n ≡ 0x40 → ⊥) → (n ≡ 0x80 → ⊥) → find n rs ≡ none
+unfolding allProper proper
+unlisted-in [] n p l h k = refl
+unlisted-in (row code fs make ∷ rs) n p l h k =
+    rw (ne-eqb n code (no-code n code (total fs) (both-right _ _ (both-left _ _ p)) l h k)) (unlisted-in rs n (both-right _ _ p) l h k)
+
+-- a number that is no command's has no row
+pub unlisted : (n : ℕ) → 46 ≤ n → (n ≡ 0x40 → ⊥) → (n ≡ 0x80 → ⊥) → rowOf n ≡ none
+unlisted n l h k = unlisted-in rows n rows-proper l h k
+
+-- a match on 0, 1, .., n - 1 that takes none of these arms
+abbrev pub Nones : ℕ → ℕ → Type 0
+Nones zero t = Unit
+Nones (suc n) t = Nones n t × (t ≡ n → ⊥)
+
+pub past : (n t : ℕ) → Nones n t → n ≤ t
+past zero t h = omega arith
+past (suc n) t h = let p : n ≤ t = past n t (h .0) in let q : t ≡ n → ⊥ = h .1 in omega arith
+
+-- top bits 11 are no command's
+pub no-vertex : (t w : ℕ) → 3 ≤ t → byTopBits t w ≡ 0xC0
+no-vertex zero w h = absurd (not-suc-le-zero h)
+no-vertex (suc zero) w h = absurd (not-suc-le-zero (le-of-suc-le-suc h))
+no-vertex (suc (suc zero)) w h = absurd (not-suc-le-zero (le-of-suc-le-suc (le-of-suc-le-suc h)))
+no-vertex (suc (suc (suc t))) w h = refl
+
+-- a word with a row's number at the top and its fields below has that row's command
+pub command-of : {n : ℕ} {fs : List Field} → Proper n fs → (j : ℕ) → j < 2 ^ total fs → command (n * 2 ^ 24 + j) ≡ n
+command-of {n} {fs} p j h = ⊎-elim by-byte (λ v. ⊎-elim first second v) (p .place)
+  where
+    below : j < 2 ^ 30
+    below = omega (arith, pow-mono (p .narrow))
+    by-byte : (n < 46) × (total fs ≤ 24) → command (n * 2 ^ 24 + j) ≡ n
+    by-byte t =
+        let l : j < 2 ^ 24 = omega (arith, pow-mono (t .1)) in
+        let z : (n * 2 ^ 24 + j) / 2 ^ 30 ≡ 0 = omega (arith, t .0) in
+        rw z (omega arith)
+    first : n ≡ 0x40 → command (n * 2 ^ 24 + j) ≡ n
+    first e = let z : (n * 2 ^ 24 + j) / 2 ^ 30 ≡ 1 = omega (arith, below) in rw z (sym e)
+    second : n ≡ 0x80 → command (n * 2 ^ 24 + j) ≡ n
+    second e = let z : (n * 2 ^ 24 + j) / 2 ^ 30 ≡ 2 = omega (arith, below) in rw z (sym e)

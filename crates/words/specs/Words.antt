@@ -1,0 +1,73 @@
+-- What it means to read and to write a word. Document 01, 'Words and state' and rows 11 and 12 of its number table.
+use Prim.Native.Nat.{ℕ, suc, zero, _+_, _*_, _/_, _%_, _^_}
+use mathlib.Core.Bool.{Bool, true, false}
+use mathlib.Core.List.{List}
+use Rattle.words.specs.declared.field.Field.{Field}
+use Rattle.words.specs.declared.word.Word.{Word}
+use Rattle.words.specs.declared.reading.Read.{Read}
+use Rattle.words.specs.declared.reading.Read.the-variants as r
+use Rattle.words.specs.declared.spelling.Spelling.{Spelling}
+use Rattle.words.specs.declared.writing.Written.{Written}
+use Rattle.words.specs.declared.writing.Written.the-variants as o
+use Rattle.words.specs.Fields.{values, allMean, fit, join, total}
+use Rattle.words.specs.Table.{Row, row, Found, none, some, rowOf, apply, numbers, spelled}
+
+-- 'Two top bits 01: VERTEX2F, 10: VERTEX2II. Otherwise the top byte'; two top bits 11 are no command's.
+abbrev pub byTopBits : ℕ → ℕ → ℕ
+byTopBits zero w = w / 2 ^ 24
+byTopBits (suc zero) w = 0x40
+byTopBits (suc (suc zero)) w = 0x80
+byTopBits (suc (suc (suc n))) w = 0xC0
+
+-- the number of a word's command
+abbrev pub command : ℕ → ℕ
+command w = byTopBits (w / 2 ^ 30) w
+
+-- READING. 11 for a number that is no command's, 12 for a value without meaning. Bits that no field has are not looked at.
+unfoldable pub checked : Bool → Word → Read
+checked true c = r.Command c
+checked false c = r.NoMeaning
+
+abbrev pub readAs : Found → ℕ → Read
+readAs none w = r.NoCommand
+readAs (some (row code fs make)) w = checked (allMean fs (values fs w)) (apply fs make (values fs w))
+
+abbrev pub readWord : ℕ → Read
+readWord w = readAs (rowOf (command w)) w
+
+-- WRITING. 11 as in reading, 12 also for a field that its bits cannot hold. Bits that no field has are 0.
+unfoldable pub written : Bool → ℕ → Written
+written true n = o.Bits n
+written false n = o.NoMeaning
+
+abbrev pub encoded : List Field → Spelling → Written
+encoded fs s = written (fit fs (numbers s)) (s .0 * 2 ^ 24 + join fs (numbers s))
+
+abbrev pub writeAs : Found → Spelling → Written
+writeAs none s = o.NoCommand
+writeAs (some (row code fs make)) s = encoded fs s
+
+abbrev pub writeSpelling : Spelling → Written
+writeSpelling s = writeAs (rowOf (s .0)) s
+
+abbrev pub writeWord : Word → Written
+writeWord c = writeSpelling (spelled c)
+
+-- RESERVED BITS. The word with nothing but its command's number at the top and its fields at the bottom.
+abbrev pub clearedAs : Found → ℕ → ℕ
+clearedAs none w = w
+clearedAs (some (row code fs make)) w = command w * 2 ^ 24 + w % 2 ^ total fs
+
+abbrev pub cleared : ℕ → ℕ
+cleared w = clearedAs (rowOf (command w)) w
+
+-- THE NUMBERS of document 01's table.
+abbrev pub readNumber : Read → ℕ
+readNumber (r.Command c) = 0
+readNumber r.NoCommand = 11
+readNumber r.NoMeaning = 12
+
+abbrev pub writtenNumber : Written → ℕ
+writtenNumber (o.Bits n) = 0
+writtenNumber o.NoCommand = 11
+writtenNumber o.NoMeaning = 12

@@ -1,0 +1,221 @@
+/* jokulvisp.h - display list words of FT81x and BT88x panels, read and written.
+ *
+ * This file is the library's manual as well as its declarations. The archive to link is libjokulvisp.a; it holds x86-64
+ * code only. The header is C11 and C++.
+ *
+ * What holds for every call:
+ *
+ *   - It keeps no state: the same arguments always give the same answer, and calls may be made from several threads at
+ *     once.
+ *   - It takes numbers and gives numbers: no memory is lent, kept or allocated, and errno is left alone.
+ *   - It takes every argument that its types can hold. What it cannot work with it refuses by a number in its answer,
+ *     and whatever else is in the answer is then 0.
+ */
+#ifndef JOKULVISP_H
+#define JOKULVISP_H
+
+#include <stdint.h>
+
+#ifdef __cplusplus
+extern "C" {
+#endif
+
+/* ---- Numbers -----------------------------------------------------------------------------------------------------
+ *
+ * Each answer begins with one of these. Reading or writing a single word gives 0, 11 or 12 and no other; the rest
+ * are for whole lists, which are run and drawn.
+ */
+enum jv_number {
+    JV_DONE            = 0,  /* done: the rest of the answer holds */
+
+    /* What was handed over has the wrong measure. */
+    JV_BAD_FRAME       = 1,  /* frame size out of limits, row past the frame, or a lent run of another length */
+    JV_BAD_LIST        = 2,  /* list length not 4 to 8192 bytes, or not a multiple of 4 */
+    JV_BAD_RAM_G       = 3,  /* graphics memory above 1048576 bytes */
+    JV_BAD_LIMIT       = 4,  /* step limit not 1 to 65536 */
+
+    /* A word of the list is at fault. */
+    JV_PAST_END        = 10, /* the next word starts at or past the list's end */
+    JV_NO_COMMAND      = 11, /* no such command: top two bits 11, or top byte 0x2E to 0x3F */
+    JV_NO_MEANING      = 12, /* a field holds a value without meaning (see the fields below) */
+    JV_NOT_DRAWN       = 13, /* the word has a meaning, but this library does not draw it yet */
+    JV_FIFTH_CALL      = 14, /* CALL while four calls are open */
+    JV_NO_CALL         = 15, /* RETURN while no call is open */
+    JV_SPLIT_TARGET    = 16, /* CALL or JUMP to an offset that is not a multiple of 4 */
+    JV_NO_PRIMITIVE    = 17, /* vertex while no primitive is begun */
+    JV_NO_BITMAP       = 18, /* vertex of a bitmap that is not set up so that it can be drawn */
+    JV_LIMIT_REACHED   = 19  /* as many words fetched as the step limit allows, and the list has not ended */
+};
+
+/* ---- Commands ----------------------------------------------------------------------------------------------------
+ *
+ * A command is known by the top byte of its word. The two vertices have two top bits only, 01 and 10, with fields in
+ * the six bits below; they go by the byte that those two bits make with zeros after them.
+ */
+enum jv_command {
+    JV_DISPLAY            = 0x00,
+    JV_BITMAP_SOURCE      = 0x01,
+    JV_CLEAR_COLOR_RGB    = 0x02,
+    JV_TAG                = 0x03,
+    JV_COLOR_RGB          = 0x04,
+    JV_BITMAP_HANDLE      = 0x05,
+    JV_CELL               = 0x06,
+    JV_BITMAP_LAYOUT      = 0x07,
+    JV_BITMAP_SIZE        = 0x08,
+    JV_ALPHA_FUNC         = 0x09,
+    JV_STENCIL_FUNC       = 0x0A,
+    JV_BLEND_FUNC         = 0x0B,
+    JV_STENCIL_OP         = 0x0C,
+    JV_POINT_SIZE         = 0x0D,
+    JV_LINE_WIDTH         = 0x0E,
+    JV_CLEAR_COLOR_A      = 0x0F,
+    JV_COLOR_A            = 0x10,
+    JV_CLEAR_STENCIL      = 0x11,
+    JV_CLEAR_TAG          = 0x12,
+    JV_STENCIL_MASK       = 0x13,
+    JV_TAG_MASK           = 0x14,
+    JV_BITMAP_TRANSFORM_A = 0x15,
+    JV_BITMAP_TRANSFORM_B = 0x16,
+    JV_BITMAP_TRANSFORM_C = 0x17,
+    JV_BITMAP_TRANSFORM_D = 0x18,
+    JV_BITMAP_TRANSFORM_E = 0x19,
+    JV_BITMAP_TRANSFORM_F = 0x1A,
+    JV_SCISSOR_XY         = 0x1B,
+    JV_SCISSOR_SIZE       = 0x1C,
+    JV_CALL               = 0x1D,
+    JV_JUMP               = 0x1E,
+    JV_BEGIN              = 0x1F,
+    JV_COLOR_MASK         = 0x20,
+    JV_END                = 0x21,
+    JV_SAVE_CONTEXT       = 0x22,
+    JV_RESTORE_CONTEXT    = 0x23,
+    JV_RETURN             = 0x24,
+    JV_MACRO              = 0x25,
+    JV_CLEAR              = 0x26,
+    JV_VERTEX_FORMAT      = 0x27,
+    JV_BITMAP_LAYOUT_H    = 0x28,
+    JV_BITMAP_SIZE_H      = 0x29,
+    JV_PALETTE_SOURCE     = 0x2A,
+    JV_VERTEX_TRANSLATE_X = 0x2B,
+    JV_VERTEX_TRANSLATE_Y = 0x2C,
+    JV_NOP                = 0x2D,
+    JV_VERTEX2F           = 0x40,
+    JV_VERTEX2II          = 0x80
+};
+
+/* ---- Fields ------------------------------------------------------------------------------------------------------
+ *
+ * The fields of each command in their order, high bits first: the first is a in the calls below, the second b, and so
+ * on to e. After a field's name stand its highest and its lowest bit, then 's' if it is signed, then in square brackets
+ * the values that have a meaning, where they are listed below the table or are not all that the bits can hold.
+ *
+ *   DISPLAY               none
+ *   BITMAP_SOURCE         addr 21..0
+ *   CLEAR_COLOR_RGB       red 23..16, green 15..8, blue 7..0
+ *   TAG                   s 7..0
+ *   COLOR_RGB             red 23..16, green 15..8, blue 7..0
+ *   BITMAP_HANDLE         handle 4..0
+ *   CELL                  cell 6..0
+ *   BITMAP_LAYOUT         format 23..19 [format], linestride 18..9, height 8..0
+ *   BITMAP_SIZE           filter 20 [filter], wrapx 19 [wrap], wrapy 18 [wrap], width 17..9, height 8..0
+ *   ALPHA_FUNC            func 10..8 [test], ref 7..0
+ *   STENCIL_FUNC          func 19..16 [test], ref 15..8, mask 7..0
+ *   BLEND_FUNC            src 5..3 [factor], dst 2..0 [factor]
+ *   STENCIL_OP            sfail 5..3 [action], spass 2..0 [action]
+ *   POINT_SIZE            size 12..0                               a radius, in sixteenths of a pixel
+ *   LINE_WIDTH            width 11..0                              from the middle outwards, in sixteenths of a pixel
+ *   CLEAR_COLOR_A         alpha 7..0
+ *   COLOR_A               alpha 7..0
+ *   CLEAR_STENCIL         s 7..0
+ *   CLEAR_TAG             t 7..0
+ *   STENCIL_MASK          mask 7..0
+ *   TAG_MASK              mask 0
+ *   BITMAP_TRANSFORM_A    a 16..0 s                                256 stands for one, as in B to F
+ *   BITMAP_TRANSFORM_B    b 16..0 s
+ *   BITMAP_TRANSFORM_C    c 23..0 s
+ *   BITMAP_TRANSFORM_D    d 16..0 s
+ *   BITMAP_TRANSFORM_E    e 16..0 s
+ *   BITMAP_TRANSFORM_F    f 23..0 s
+ *   SCISSOR_XY            x 21..11, y 10..0                        in pixels
+ *   SCISSOR_SIZE          width 23..12 [0 to 2048], height 11..0 [0 to 2048]   in pixels
+ *   CALL                  dest 15..0                               in bytes from the list's start
+ *   JUMP                  dest 15..0                               in bytes from the list's start
+ *   BEGIN                 prim 3..0 [primitive]
+ *   COLOR_MASK            r 3, g 2, b 1, a 0
+ *   END                   none
+ *   SAVE_CONTEXT          none
+ *   RESTORE_CONTEXT       none
+ *   RETURN                none
+ *   MACRO                 m 0
+ *   CLEAR                 c 2, s 1, t 0                            colour, stencil, tag
+ *   VERTEX_FORMAT         frac 2..0 [0 to 4]                       a VERTEX2F unit is a pixel divided by 2^frac
+ *   BITMAP_LAYOUT_H       linestride 3..2, height 1..0             the bits above those of BITMAP_LAYOUT
+ *   BITMAP_SIZE_H         width 3..2, height 1..0                  the bits above those of BITMAP_SIZE
+ *   PALETTE_SOURCE        addr 21..0
+ *   VERTEX_TRANSLATE_X    x 16..0 s                                in sixteenths of a pixel
+ *   VERTEX_TRANSLATE_Y    y 16..0 s                                in sixteenths of a pixel
+ *   NOP                   none
+ *   VERTEX2F              x 29..15 s, y 14..0 s                    in the unit that VERTEX_FORMAT sets
+ *   VERTEX2II             x 29..21, y 20..12, handle 11..7, cell 6..0          x and y in pixels
+ *
+ *   test        0 NEVER, 1 LESS, 2 LEQUAL, 3 GREATER, 4 GEQUAL, 5 EQUAL, 6 NOTEQUAL, 7 ALWAYS
+ *   factor      0 ZERO, 1 ONE, 2 SRC_ALPHA, 3 DST_ALPHA, 4 ONE_MINUS_SRC_ALPHA, 5 ONE_MINUS_DST_ALPHA
+ *   action      0 ZERO, 1 KEEP, 2 REPLACE, 3 INCR, 4 DECR, 5 INVERT
+ *   primitive   1 BITMAPS, 2 POINTS, 3 LINES, 4 LINE_STRIP, 5 EDGE_STRIP_R, 6 EDGE_STRIP_L, 7 EDGE_STRIP_A,
+ *               8 EDGE_STRIP_B, 9 RECTS
+ *   format      0 ARGB1555, 1 L1, 2 L4, 3 L8, 4 RGB332, 5 ARGB2, 6 ARGB4, 7 RGB565, 9 TEXT8X8, 10 TEXTVGA,
+ *               11 BARGRAPH, 14 PALETTED565, 15 PALETTED4444, 16 PALETTED8, 17 L2
+ *   filter      0 NEAREST, 1 BILINEAR
+ *   wrap        0 BORDER, 1 REPEAT
+ *
+ * Bits that no field of the command has are reserved. They are ignored in reading and 0 in writing.
+ *
+ * A signed field travels as a 32-bit two's complement number, -16 as 0xFFFFFFF0: pass (uint32_t)-16, and read the value
+ * as (int32_t)w.a.
+ */
+
+/* A word taken apart. Fields that the command does not have are 0. */
+typedef struct { uint32_t number, command, a, b, c, d, e; } jv_word;
+
+/* A word put together. */
+typedef struct { uint32_t number, bits; } jv_bits;
+
+/* Reads one display list word.
+ *
+ * Takes the word's 32 bits, as the number that its four bytes make with the lowest byte first.
+ *
+ * Gives in number
+ *   0    the word's command, and its fields in a to e;
+ *   11   no such command: the top two bits are 11, or the top byte is 0x2E to 0x3F;
+ *   12   a field's value has no meaning: STENCIL_FUNC's func above 7, a stencil action or blend factor above 5, BEGIN's
+ *        prim 0 or above 9, a format that is not in the list above, frac above 4, SCISSOR_SIZE's width or height above
+ *        2048.
+ *
+ * A word is judged by itself. Whether a list may use it where it stands (an offset past the list, a handle that is not
+ * set up), or whether it can be drawn, is no question here.
+ *
+ *   jv_read_word(0x40F00110)  gives  { 0, JV_VERTEX2F, 480, 272, 0, 0, 0 }
+ *   jv_read_word(0x1C801800)  gives  { 12, 0, 0, 0, 0, 0, 0 }, for a scissor 2049 wide
+ */
+jv_word jv_read_word(uint32_t bits);
+
+/* Writes one display list word.
+ *
+ * Takes a command and its fields in their order; where the command has fewer than five, the places left over are 0.
+ *
+ * Gives in number
+ *   0    the word, in bits; jv_read_word gives back exactly the command and the fields written;
+ *   11   no such command, whatever the fields are;
+ *   12   a field's value has no meaning, as in reading, or its bits cannot hold it, or a place that the command does
+ *        not have is not 0.
+ *
+ *   jv_write_word(JV_SCISSOR_SIZE, 80, 60, 0, 0, 0)  gives  { 0, 0x1C05003C }
+ *   jv_write_word(JV_TAG, 256, 0, 0, 0, 0)           gives  { 12, 0 }, for eight bits end at 255
+ */
+jv_bits jv_write_word(uint32_t command, uint32_t a, uint32_t b, uint32_t c, uint32_t d, uint32_t e);
+
+#ifdef __cplusplus
+}
+#endif
+
+#endif
