@@ -85,13 +85,14 @@ module _ (k : ℕ) (wide : k ≤ 30) (some : 1 ≤ k) where
           let l : n < 2 ^ k / 2 = ltb-true _ _ e in
           let m : n % 2 ^ k ≡ n = mod-eq-of-lt (omega (arith, halves)) in
           rw (m, e)
+
       above-half : both (leb (2 ^ 32 - 2 ^ k / 2) n) (ltb n (2 ^ 32)) ≡ true → extended (2 ^ k / 2) (n % 2 ^ k) ≡ n
       above-half e =
           let l : 2 ^ 32 - 2 ^ k / 2 ≤ n = leb-true _ _ (both-left _ _ e) in
           let u : n < 2 ^ 32 = ltb-true _ _ (both-right _ _ e) in
           let q : 2 ^ 32 - 2 ^ k + (n - (2 ^ 32 - 2 ^ k)) ≡ n = omega (arith, small, halves) in
           let m : n % 2 ^ k ≡ n - (2 ^ 32 - 2 ^ k) =
-              ap (λ (x : ℕ). x % 2 ^ k) (sym q) ∙ upper (n - (2 ^ 32 - 2 ^ k)) (omega (arith, small, halves)) in
+          ap (λ (x : ℕ). x % 2 ^ k) (sym q) ∙ upper (n - (2 ^ 32 - 2 ^ k)) (omega (arith, small, halves)) in
           rw (m, le-ltb (n - (2 ^ 32 - 2 ^ k)) (2 ^ k / 2) (omega (arith, small, halves)), halves) q
 
 value-bits : (f : Field) (n : ℕ) → width f ≤ 30 → signs f ≡ true → n < 2 ^ width f → value f n % 2 ^ width f ≡ n

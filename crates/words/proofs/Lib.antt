@@ -1,4 +1,5 @@
 pub mod Digits
+pub mod Examples
 pub mod Packing
 pub mod Round
 pub mod Signs

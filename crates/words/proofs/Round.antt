@@ -111,7 +111,6 @@ abbrev Good : Row → Type 0
 Good (row code fs make) = (w : ℕ) → spelled (apply fs make (values fs w)) ≡ spelling code (values fs w)
 
 infixr 4 _⨾_
-
 data Pair (A B : Type 0) : Type 0 where
   _⨾_ : A → B → Pair A B
 
@@ -248,8 +247,10 @@ lifted {n} {fs} p = ⊎-elim by-byte (λ v. ⊎-elim (by-bits 1) (by-bits 2) v) 
   where
     place : (k : ℕ) (t : ℕ) → t ≤ k → 2 ^ k ≡ 2 ^ (k - t) * 2 ^ t
     place k t l = ap (λ (x : ℕ). 2 ^ x) (let e : k ≡ k - t + t = omega arith in e) ∙ pow-add 2 (k - t) t
+
     by-byte : (n < 46) × (total fs ≤ 24) → (h : ℕ) × (n * 2 ^ 24 ≡ h * 2 ^ total fs)
     by-byte t = (n * 2 ^ (24 - total fs), ap (λ (x : ℕ). n * x) (place 24 (total fs) (t .1)) ∙ omega arith)
+
     by-bits : (k : ℕ) → n ≡ k * 64 → (h : ℕ) × (n * 2 ^ 24 ≡ h * 2 ^ total fs)
     by-bits k e =
         (k * 2 ^ (30 - total fs), let m : n * 2 ^ 24 ≡ k * 2 ^ 30 = omega arith in m ∙ ap (λ (x : ℕ). k * x) (place 30 (total fs) (p .narrow)) ∙ omega arith)
@@ -264,13 +265,15 @@ unfolding checked
 decoded s w code fs make q p e = record {
   fits = told .0;
   read-back = back;
-  reads = rw (named, q, back, fit-means fs (numbers s) (told .0))
+  reads = rw (named, q, back, fit-means fs (numbers s) (told .0));
 }
   where
     told : (fit fs (numbers s) ≡ true) × (s .0 * 2 ^ 24 + join fs (numbers s) ≡ w)
     told = written-yes _ _ w e
+
     named : command w ≡ s .0
     named = rw (← told .1) (command-of p (join fs (numbers s)) (join-lt fs (numbers s)))
+
     back : values fs w ≡ front fs (numbers s)
     back = rw (← told .1, lifted p .1) (values-join fs (numbers s) (lifted p .0) (p .narrow) (p .signed) (told .0))
 

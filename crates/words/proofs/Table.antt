@@ -93,7 +93,7 @@ proper-row code fs make p = record {
   signed = both-right _ _ (both-left _ _ p);
   low = ⊎-elim (λ a. omega (arith, a .0)) (λ b. ⊎-elim (λ v. omega arith) (λ v. omega arith) (b .0)) cases;
   narrow = ⊎-elim (λ a. omega (arith, a .1)) (λ b. b .1) cases;
-  place = ⊎-elim (λ a. inl a) (λ b. inr (b .0)) cases
+  place = ⊎-elim (λ a. inl a) (λ b. inr (b .0)) cases;
 }
   where
     cases : ((code < 46) × (total fs ≤ 24)) ⊎ (((code ≡ 0x40) ⊎ (code ≡ 0x80)) × (total fs ≤ 30))
@@ -155,12 +155,15 @@ command-of {n} {fs} p j h = ⊎-elim by-byte (λ v. ⊎-elim first second v) (p 
   where
     below : j < 2 ^ 30
     below = omega (arith, pow-mono (p .narrow))
+
     by-byte : (n < 46) × (total fs ≤ 24) → command (n * 2 ^ 24 + j) ≡ n
     by-byte t =
         let l : j < 2 ^ 24 = omega (arith, pow-mono (t .1)) in
         let z : (n * 2 ^ 24 + j) / 2 ^ 30 ≡ 0 = omega (arith, t .0) in
         rw z (omega arith)
+
     first : n ≡ 0x40 → command (n * 2 ^ 24 + j) ≡ n
     first e = let z : (n * 2 ^ 24 + j) / 2 ^ 30 ≡ 1 = omega (arith, below) in rw z (sym e)
+
     second : n ≡ 0x80 → command (n * 2 ^ 24 + j) ≡ n
     second e = let z : (n * 2 ^ 24 + j) / 2 ^ 30 ≡ 2 = omega (arith, below) in rw z (sym e)

@@ -1,3 +1,4 @@
+pub mod Examples
 pub mod Fields
 pub mod Layout
 pub mod Table

@@ -41,7 +41,7 @@ sub-result c = rw (diff (c .before .args .n) (c .before .args .half) (omega arit
 
 -- src/reading.rt:29:1
 returns-2 : tie.Need-returns-2
-returns-2 c = 
+returns-2 c =
     rw (
       diff (c .before .args .n) (c .before .args .half) (omega arith) (omega arith),
       toZ-ofZ {w = w32} {z = negsuc (c .before .args .half + c .before .args .half - suc (c .before .args .n))} (sfits-of (omega arith)),

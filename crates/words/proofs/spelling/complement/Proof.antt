@@ -22,7 +22,7 @@ magnitude z f h =
     rw (e, below-zero z (rw e at h), toZ-pos w32 {n = mag z} b)
 
 sub-result : tie.Need-sub-result
-sub-result c = 
+sub-result c =
     let x : ℤ = c .before .args .x in
     let f : SFits w32 x = c .before .fits .x in
     let e : toZ w32 (ofZ w32 x) ≡ x = toZ-ofZ f in
@@ -31,7 +31,7 @@ sub-result c =
 
 -- src/spelling.rt:15:29
 cast-result : tie.Need-cast-result
-cast-result c = 
+cast-result c =
     let x : ℤ = c .before .args .x in
     let f : SFits w32 x = c .before .fits .x in
     let b : mag x < 2 ^ 31 = f .sfits in
@@ -39,7 +39,7 @@ cast-result c =
 
 -- src/spelling.rt:15:16
 sub-result-2 : tie.Need-sub-result-2
-sub-result-2 c = 
+sub-result-2 c =
     let x : ℤ = c .before .args .x in
     let f : SFits w32 x = c .before .fits .x in
     let b : mag x < 2 ^ 31 = f .sfits in
@@ -47,7 +47,7 @@ sub-result-2 c =
 
 -- src/spelling.rt:15:9
 returns : tie.Need-returns
-returns c = 
+returns c =
     let x : ℤ = c .before .args .x in
     let f : SFits w32 x = c .before .fits .x in
     let e : toZ w32 (ofZ w32 x) ≡ x = toZ-ofZ f in
@@ -55,7 +55,7 @@ returns c =
 
 -- src/spelling.rt:17:5
 cast-result-2 : tie.Need-cast-result-2
-cast-result-2 c = 
+cast-result-2 c =
     let x : ℤ = c .before .args .x in
     let f : SFits w32 x = c .before .fits .x in
     let e : toZ w32 (ofZ w32 x) ≡ x = toZ-ofZ f in
@@ -64,7 +64,7 @@ cast-result-2 c =
 
 -- src/spelling.rt:11:1
 returns-2 : tie.Need-returns-2
-returns-2 c = 
+returns-2 c =
     let x : ℤ = c .before .args .x in
     let f : SFits w32 x = c .before .fits .x in
     let e : toZ w32 (ofZ w32 x) ≡ x = toZ-ofZ f in

@@ -243,7 +243,7 @@ enum-told-6 c = search needs
 
 -- src/spelling.rt:20:1
 returns : tie.Need-returns
-returns c = 
+returns c =
     let x : ℤ = c .before .before .before .word .given .0 .0 in
     let y : ℤ = c .before .before .before .word .given .0 .1 .0 in
     let e : toZ w32 (ofZ w32 x) ≡ x = search needs in
@@ -340,42 +340,42 @@ returns-23 c = rw (c .before .word22 .given .1)
 
 -- src/spelling.rt:20:1
 returns-24 : tie.Need-returns-24
-returns-24 c = 
+returns-24 c =
     let x : ℤ = c .before .before .word23 .given .0 .0 in
     let e : toZ w32 (ofZ w32 x) ≡ x = search needs in
     rw (c .before .before .word23 .given .1, c .complement3 .ensures, e)
 
 -- src/spelling.rt:20:1
 returns-25 : tie.Need-returns-25
-returns-25 c = 
+returns-25 c =
     let x : ℤ = c .before .before .word24 .given .0 .0 in
     let e : toZ w32 (ofZ w32 x) ≡ x = search needs in
     rw (c .before .before .word24 .given .1, c .complement4 .ensures, e)
 
 -- src/spelling.rt:20:1
 returns-26 : tie.Need-returns-26
-returns-26 c = 
+returns-26 c =
     let x : ℤ = c .before .before .word25 .given .0 .0 in
     let e : toZ w32 (ofZ w32 x) ≡ x = search needs in
     rw (c .before .before .word25 .given .1, c .complement5 .ensures, e)
 
 -- src/spelling.rt:20:1
 returns-27 : tie.Need-returns-27
-returns-27 c = 
+returns-27 c =
     let x : ℤ = c .before .before .word26 .given .0 .0 in
     let e : toZ w32 (ofZ w32 x) ≡ x = search needs in
     rw (c .before .before .word26 .given .1, c .complement6 .ensures, e)
 
 -- src/spelling.rt:20:1
 returns-28 : tie.Need-returns-28
-returns-28 c = 
+returns-28 c =
     let x : ℤ = c .before .before .word27 .given .0 .0 in
     let e : toZ w32 (ofZ w32 x) ≡ x = search needs in
     rw (c .before .before .word27 .given .1, c .complement7 .ensures, e)
 
 -- src/spelling.rt:20:1
 returns-29 : tie.Need-returns-29
-returns-29 c = 
+returns-29 c =
     let x : ℤ = c .before .before .word28 .given .0 .0 in
     let e : toZ w32 (ofZ w32 x) ≡ x = search needs in
     rw (c .before .before .word28 .given .1, c .complement8 .ensures, e)
@@ -446,14 +446,14 @@ returns-45 c = rw (c .before .word40 .given .1)
 
 -- src/spelling.rt:20:1
 returns-46 : tie.Need-returns-46
-returns-46 c = 
+returns-46 c =
     let x : ℤ = c .before .before .word41 .given .0 .0 in
     let e : toZ w32 (ofZ w32 x) ≡ x = search needs in
     rw (c .before .before .word41 .given .1, c .complement9 .ensures, e)
 
 -- src/spelling.rt:20:1
 returns-47 : tie.Need-returns-47
-returns-47 c = 
+returns-47 c =
     let x : ℤ = c .before .before .word42 .given .0 .0 in
     let e : toZ w32 (ofZ w32 x) ≡ x = search needs in
     rw (c .before .before .word42 .given .1, c .complement10 .ensures, e)

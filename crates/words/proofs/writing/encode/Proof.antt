@@ -28,14 +28,14 @@ pack-all-requires c κs = search needs
 
 -- src/writing.rt:87:30
 add-t6 : tie.Need-add-t6
-add-t6 c = 
+add-t6 c =
     let start = c .before .before .before .before in
     rw (c .pack-all .ensures) (omega (arith, join-fits (listed (start .args .fs)) (numbers (start .args .s)) (start .pre .1)))
 
 -- src/writing.rt:87:9
 returns : tie.Need-returns
 unfolding written
-returns c = 
+returns c =
     let start = c .before .before .before .before in
     let e : fit (listed (start .args .fs)) (numbers (start .args .s)) ≡ true = sym (c .before .before .before .is-fit .ensures) ∙ c .before .before .if1 .taken in
     rw (e, c .pack-all .ensures)
@@ -43,7 +43,7 @@ returns c =
 -- src/writing.rt:82:1
 returns-2 : tie.Need-returns-2
 unfolding written
-returns-2 c = 
+returns-2 c =
     let start = c .before .before in
     let e : fit (listed (start .args .fs)) (numbers (start .args .s)) ≡ false = sym (c .before .is-fit .ensures) ∙ c .if1 .left in
     rw e

@@ -27,14 +27,14 @@ power-requires-2 c κs = search needs
 
 -- src/writing.rt:41:15
 mul-t8 : tie.Need-mul-t8
-mul-t8 c = 
+mul-t8 c =
     let start = c .before .before .before in
     rw (c .before .power .ensures, c .power2 .ensures)
     (omega (arith, pack-fits (c .before .before .width-of .result) (start .args .low .used) (start .args .n) (start .args .low .bits) (start .pre .below) (omega arith)))
 
 -- src/writing.rt:41:15
 add-t9 : tie.Need-add-t9
-add-t9 c = 
+add-t9 c =
     let start = c .before .before .before .before in
     rw (c .before .before .power .ensures, c .before .power2 .ensures)
     (omega (arith, pack-fits (c .before .before .before .width-of .result) (start .args .low .used) (start .args .n) (start .args .low .bits) (start .pre .below) (omega arith)))
