@@ -12,6 +12,7 @@ use Rattle.words.specs.Words.{readNumber, readWord, writtenNumber, writeSpellin
 use Rattle.jokulvisp.specs.declared.JvBits.{JvBits}
 use Rattle.jokulvisp.specs.declared.JvWord.{JvWord}
 
+-- a command as six numbers, and 0 for each where there is none
 abbrev pub spoken : Read → Spelling
 spoken (r.Command c) = spelled c
 spoken r.NoCommand = record { 0 = 0; 1 = 0; 2 = 0; 3 = 0; 4 = 0; 5 = 0 }
@@ -20,15 +21,21 @@ spoken r.NoMeaning = record { 0 = 0; 1 = 0; 2 = 0; 3 = 0; 4 = 0; 5 = 0 }
 abbrev pub wordTold : ℕ → Spelling → JvWord
 wordTold n s = record { number = n; command = s .0; a = s .1; b = s .2; c = s .3; d = s .4; e = s .5 }
 
+abbrev pub readTold : Read → JvWord
+readTold q = wordTold (readNumber q) (spoken q)
+
 abbrev pub bitsOf : Written → ℕ
 bitsOf (o.Bits n) = n
 bitsOf o.NoCommand = 0
 bitsOf o.NoMeaning = 0
 
+abbrev pub writtenTold : Written → JvBits
+writtenTold q = record { number = writtenNumber q; bits = bitsOf q }
+
 -- jv_read_word, for every word
 unfoldable pub ReadAnswer : ℕ → JvWord → Type 0
-ReadAnswer bits answer = answer ≡ wordTold (readNumber (readWord bits)) (spoken (readWord bits))
+ReadAnswer bits answer = answer ≡ readTold (readWord bits)
 
 -- jv_write_word, for every six numbers
 unfoldable pub WriteAnswer : Spelling → JvBits → Type 0
-WriteAnswer s answer = answer ≡ record { number = writtenNumber (writeSpelling s); bits = bitsOf (writeSpelling s) }
+WriteAnswer s answer = answer ≡ writtenTold (writeSpelling s)

@@ -1,7 +1,7 @@
 -- One law of digits for every command: fields laid side by side are read back as they were laid, and laid as they were read.
 -- Assumes nothing.
-use Prim.Native.Nat.{ℕ, suc, zero, _+_, _*_, _-_, _/_, _%_, _^_, _<_, _≤_}
-use mathlib.Core.Path.{_≡_, refl, sym, ap, _∙_, subst}
+use Prim.Native.Nat.{ℕ, suc, _+_, _*_, _-_, _/_, _%_, _^_, _<_, _≤_}
+use mathlib.Core.Path.{_≡_, refl, sym, ap, _∙_}
 use mathlib.Core.Bool.{Bool, true, false}
 use mathlib.Core.List.{List, [], _∷_}
 use mathlib.Core.Logic.{⊎-elim}
@@ -12,7 +12,7 @@ use lib.Pow.{pow-pos, pow-add, pow-mono, mod-pow-add, high, low, high-ones}
 use borrow.Author.Tests.{ltb-true, ltb-false, lt-ltb, le-ltb, le-leb, leb-true}
 use Rattle.words.specs.declared.field.Field.{Field}
 use Rattle.words.specs.declared.field.Field.the-variants.{Bits, Only, Signed}
-use Rattle.words.specs.Fields.{both, either, pick, meant, extended, holdsSigned, width, value, means, holds, total, above, values, allMean, fit, join}
+use Rattle.words.specs.Fields.{both, either, pick, extended, holdsSigned, width, value, means, holds, total, above, values, allMean, fit, join}
 use Rattle.words.proofs.Table.{signs, allSigns, both-left, both-right, both-of, either-cases}
 
 -- a digit below A before a number below B

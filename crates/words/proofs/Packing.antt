@@ -1,12 +1,10 @@
 -- The code's way to keep and pack a row's fields gives what the table says.
 -- Assumes nothing.
-use Prim.Native.Nat.{ℕ, zero, suc, _+_, _*_, _%_, _^_, _≤_, _<_}
-use mathlib.Core.Path.{_≡_, refl, sym, ap, _∙_, subst}
-use mathlib.Core.Bool.{Bool, true, false}
+use Prim.Native.Nat.{ℕ, zero, suc, _+_, _%_, _≤_}
+use mathlib.Core.Path.{_≡_, refl, ap, _∙_, subst}
 use mathlib.Core.List.{List, [], _∷_}
 use native.Mathlib.Omega.{arith}
 use lib.ListN.{length}
-use borrow.Author.Tests.{leb-true}
 use Rattle.words.specs.declared.field.Field.{Field}
 use Rattle.words.specs.declared.field.Field.the-variants.{Bits}
 use Rattle.words.specs.declared.field.Layout.{Layout}
@@ -15,10 +13,10 @@ use Rattle.words.specs.declared.spelling.Spelling.{Spelling}
 use Rattle.words.specs.declared.writing.Packed.{Packed}
 use Rattle.words.specs.declared.writing.Written.{Written}
 use Rattle.words.specs.declared.writing.Written.the-variants as o
-use Rattle.words.specs.Fields.{both, holds, width, total, fit, join}
+use Rattle.words.specs.Fields.{width, total, fit, join}
 use Rattle.words.specs.Layout.{laid, layoutOf, packed, Room}
-use Rattle.words.specs.Table.{Row, row, Found, none, some, rowOf, numbers}
-use Rattle.words.specs.Words.{written, encoded, writeAs, writeSpelling}
+use Rattle.words.specs.Table.{row, Found, none, some, rowOf, numbers}
+use Rattle.words.specs.Words.{encoded, writeAs, writeSpelling}
 use Rattle.words.proofs.Digits.{laid-lt}
 use Rattle.words.proofs.Table.{Sound, sound}
 

@@ -13,13 +13,11 @@ use lib.ListN.{length, getD}
 use lib.Pow.{pow-pos, pow-add}
 use borrow.Author.Tests.{ltb-true, eqb-true}
 use Rattle.words.specs.declared.field.Field.{Field}
-use Rattle.words.specs.declared.field.Field.the-variants.{Bits, Only, Signed}
-use Rattle.words.specs.declared.reading.Read.{Read}
+use Rattle.words.specs.declared.field.Field.the-variants.{Bits, Signed}
 use Rattle.words.specs.declared.reading.Read.the-variants as r
 use Rattle.words.specs.declared.spelling.Spelling.{Spelling}
 use Rattle.words.specs.declared.word.Word.{Word}
 use Rattle.words.specs.declared.word.Word.the-variants as v
-use Rattle.words.specs.declared.writing.Written.{Written}
 use Rattle.words.specs.declared.writing.Written.the-variants as o
 use Rattle.words.specs.Fields.{both, holds, complement, int, extended, total, values, allMean, fit, join}
 use Rattle.words.specs.Table.{Row, row, Make, rows, Found, none, some, pickFound, find, rowOf, apply, spelling, numbers, spelled}

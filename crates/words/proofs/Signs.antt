@@ -1,7 +1,7 @@
 -- One law of signs for every signed field: the numbers of a field, of 32 bits in two's complement, and the integers.
 -- Assumes nothing.
-use Prim.Native.Nat.{ℕ, suc, zero, _+_, _*_, _-_, _%_, _/_, _^_, _<_, _≤_}
-use mathlib.Core.Path.{_≡_, refl, sym, ap, _∙_}
+use Prim.Native.Nat.{ℕ, suc, zero, _+_, _-_, _^_, _<_, _≤_}
+use mathlib.Core.Path.{_≡_, refl, ap}
 use mathlib.Core.Bool.{Bool, true, false}
 use native.Mathlib.Nat.{not-suc-le-zero}
 use native.Mathlib.Omega.{arith}
@@ -10,7 +10,7 @@ use lib.IntN.{ℤ, pos, negsuc, _-ℤ_}
 use lib.Signed.{ltZ, mag}
 use borrow.Author.Tests.{lt-ltb, le-ltb, ltb-true, ltb-false, leb-true}
 use Rattle.words.specs.Fields.{both, either, pick, pickℤ, complement, int, extended, holdsSigned}
-use Rattle.words.proofs.Table.{both-left, both-right}
+use Rattle.words.proofs.Table.{both-left}
 
 pub sub-below : (n h : ℕ) → n < h → pos n -ℤ pos h ≡ negsuc (h - suc n)
 sub-below n zero l = absurd (not-suc-le-zero l)

@@ -7,10 +7,10 @@ use mathlib.Core.List.{List, [], _∷_}
 use mathlib.Core.Logic.{_⊎_, inl, inr, ⊎-elim}
 use native.Mathlib.Nat.{le-of-suc-le-suc, not-suc-le-zero}
 use native.Mathlib.Omega.{arith}
-use lib.Dec.{T, leb, ltb, eqb, leb→le}
+use lib.Dec.{leb, ltb, eqb}
 use lib.ListN.{length}
 use lib.Pow.{pow-mono}
-use borrow.Author.Tests.{leb-true, ltb-true, eqb-true, eqb-false, ne-eqb}
+use borrow.Author.Tests.{leb-true, ltb-true, eqb-true, ne-eqb}
 use Rattle.words.specs.declared.field.Field.{Field}
 use Rattle.words.specs.declared.field.Field.the-variants.{Bits, Only, Signed}
 use Rattle.words.specs.Fields.{both, either, total}

@@ -2,7 +2,7 @@
 -- The guide, 4.2: a command's parameters lie in the least significant bits; each section's table gives their widths, from the
 -- high bits down and with no gap. Document 01, row 12: which numbers have no meaning. ARCHITECTURE's C calls pass a signed field
 -- as 32 bits in two's complement, and so does every list of numbers here.
-use Prim.Native.Nat.{ℕ, suc, zero, _+_, _-_, _*_, _/_, _%_, _^_, _≤_, _<_}
+use Prim.Native.Nat.{ℕ, suc, _+_, _-_, _*_, _/_, _%_, _^_}
 use mathlib.Core.Bool.{Bool, true, false}
 use mathlib.Core.List.{List, [], _∷_}
 use lib.Dec.{ltb, leb}

@@ -10,7 +10,7 @@ use Rattle.words.specs.declared.spelling.Spelling.{Spelling}
 use Rattle.words.specs.declared.writing.Written.{Written}
 use Rattle.words.specs.declared.writing.Written.the-variants as o
 use Rattle.words.specs.Fields.{values, allMean, fit, join, total}
-use Rattle.words.specs.Table.{Row, row, Found, none, some, rowOf, apply, numbers, spelled}
+use Rattle.words.specs.Table.{row, Found, none, some, rowOf, apply, numbers, spelled}
 
 -- 'Two top bits 01: VERTEX2F, 10: VERTEX2II. Otherwise the top byte'; two top bits 11 are no command's.
 abbrev pub byTopBits : ℕ → ℕ → ℕ

@@ -1,61 +1,43 @@
-use Rattle.words.specs.Fields.{holds}
 use borrow.Author.Needs.{needs}
+use Rattle.words.specs.Fields.{holds}
 use Rattle.words.proofs.field.is_held.Statement.{statement}
 use Rattle.words.proofs.field.is_held.Tie as tie
-use Rattle.words.proofs.field.is_held.Reads as reads
-use Rattle.words.proofs.field.is_held.Lts as lts
-use Rattle.words.proofs.field.both.Reads as both-reads
-use Rattle.words.proofs.field.is_held_signed.Reads as is-held-signed-reads
-use Rattle.words.proofs.field.is_meant.Reads as is-meant-reads
-use Rattle.words.proofs.field.power.Reads as power-reads
 
--- src/field.rt:182:21
 enum-known-field : tie.Need-enum-known-field
 enum-known-field c = search needs
 
--- src/field.rt:182:31
 power-requires : tie.Need-power-requires
 power-requires c κs = rw (c .before .field .given .1) at (c .before .before .before .pre)
 
--- src/field.rt:183:21
 enum-known-field-2 : tie.Need-enum-known-field-2
 enum-known-field-2 c = search needs
 
--- src/field.rt:183:41
 is-meant-requires : tie.Need-is-meant-requires
 is-meant-requires c κs = search needs
 
--- src/field.rt:183:67
 power-requires-2 : tie.Need-power-requires-2
 power-requires-2 c κs = rw (c .before .before .field2 .given .1) at (c .before .before .before .before .pre)
 
--- src/field.rt:183:36
 both-requires : tie.Need-both-requires
 both-requires c κs = search needs
 
--- src/field.rt:184:23
 enum-known-field-3 : tie.Need-enum-known-field-3
 enum-known-field-3 c = search needs
 
--- src/field.rt:184:44
 power-requires-3 : tie.Need-power-requires-3
 power-requires-3 c κs = rw (c .before .field3 .given .1) at (c .before .before .before .pre)
 
--- src/field.rt:184:29
 is-held-signed-requires : tie.Need-is-held-signed-requires
 is-held-signed-requires c κs = search needs
 
--- src/field.rt:177:1
 returns : tie.Need-returns
 unfolding holds
 returns c = rw (c .before .before .field .given .1, c .power .ensures)
 
--- src/field.rt:177:1
 returns-2 : tie.Need-returns-2
 unfolding holds
 returns-2 c = rw (c .before .before .before .before .field2 .given .1, c .both .ensures, c .before .before .is-meant .ensures, c .before .power2 .ensures)
 
--- src/field.rt:177:1
 returns-3 : tie.Need-returns-3
 unfolding holds
 returns-3 c = rw (c .before .before .before .field3 .given .1, c .is-held-signed .ensures, c .before .power3 .ensures)

@@ -2,25 +2,19 @@ use Prim.Native.Nat.{ℕ, suc, _-_, _^_, _<_}
 use mathlib.Core.Path.{_≡_}
 use native.Mathlib.Omega.{arith}
 use lib.Dec.{ltb, leb}
+use borrow.Author.Needs.{needs}
 use borrow.Author.Tests.{lt-ltb}
 use Rattle.words.specs.Fields.{both, holdsSigned}
 use Rattle.words.proofs.Table.{both-true}
-use borrow.Author.Needs.{needs}
 use Rattle.words.proofs.field.is_held_signed.Statement.{statement}
 use Rattle.words.proofs.field.is_held_signed.Tie as tie
-use Rattle.words.proofs.field.is_held_signed.Reads as reads
-use Rattle.words.proofs.field.is_held_signed.Lts as lts
-use Rattle.words.proofs.field.either.Reads as either-reads
 
--- src/field.rt:173:22
 sub-either : tie.Need-sub-either
 sub-either c = search needs
 
--- src/field.rt:173:5
 either-requires : tie.Need-either-requires
 either-requires c κs = search needs
 
--- src/field.rt:170:1
 -- the upper numbers, as the code tests them
 top : (half n : ℕ) → half < 2 ^ 32 → n < 2 ^ 32 → ltb (4294967295 - half) n ≡ both (leb (2 ^ 32 - half) n) (ltb n (2 ^ 32))
 top half n h l =

@@ -1,72 +1,52 @@
 use borrow.Author.Needs.{needs}
 use Rattle.words.proofs.field.is_meant.Statement.{statement}
 use Rattle.words.proofs.field.is_meant.Tie as tie
-use Rattle.words.proofs.field.is_meant.Reads as reads
-use Rattle.words.proofs.field.is_meant.Lts as lts
-use Rattle.words.proofs.field.is_format.Reads as is-format-reads
-use Rattle.words.proofs.field.is_primitive.Reads as is-primitive-reads
 
--- src/field.rt:143:30
 enum-told : tie.Need-enum-told
 enum-told c = search needs
 
--- src/field.rt:144:35
 enum-told-2 : tie.Need-enum-told-2
 enum-told-2 c = search needs
 
--- src/field.rt:145:33
 enum-told-3 : tie.Need-enum-told-3
 enum-told-3 c = search needs
 
--- src/field.rt:146:31
 enum-told-4 : tie.Need-enum-told-4
 enum-told-4 c = search needs
 
--- src/field.rt:146:31
 is-primitive-requires : tie.Need-is-primitive-requires
 is-primitive-requires c κs = search needs
 
--- src/field.rt:147:28
 enum-told-5 : tie.Need-enum-told-5
 enum-told-5 c = search needs
 
--- src/field.rt:147:28
 is-format-requires : tie.Need-is-format-requires
 is-format-requires c κs = search needs
 
--- src/field.rt:148:26
 enum-told-6 : tie.Need-enum-told-6
 enum-told-6 c = search needs
 
--- src/field.rt:149:33
 enum-told-7 : tie.Need-enum-told-7
 enum-told-7 c = search needs
 
--- src/field.rt:139:1
 returns : tie.Need-returns
 returns c = rw (c .enum-told .given .1)
 
--- src/field.rt:139:1
 returns-2 : tie.Need-returns-2
 returns-2 c = rw (c .enum-told2 .given .1)
 
--- src/field.rt:139:1
 returns-3 : tie.Need-returns-3
 returns-3 c = rw (c .enum-told3 .given .1)
 
--- src/field.rt:139:1
 returns-4 : tie.Need-returns-4
 returns-4 c = rw (c .before .enum-told4 .given .1) (c .is-primitive .ensures)
 
--- src/field.rt:139:1
 returns-5 : tie.Need-returns-5
 returns-5 c = rw (c .before .enum-told5 .given .1) (c .is-format .ensures)
 
--- src/field.rt:139:1
 returns-6 : tie.Need-returns-6
 returns-6 c = rw (c .enum-told6 .given .1)
 
--- src/field.rt:139:1
 returns-7 : tie.Need-returns-7
 returns-7 c = rw (c .enum-told7 .given .1)
 

@@ -1,22 +1,15 @@
+use borrow.Author.Needs.{needs}
 use Rattle.words.specs.Fields.{both}
 use Rattle.words.proofs.Table.{both-true}
-use borrow.Author.Needs.{needs}
 use Rattle.words.proofs.reading.read_begin.Statement.{statement}
 use Rattle.words.proofs.reading.read_begin.Tie as tie
-use Rattle.words.proofs.reading.read_begin.Reads as reads
-use Rattle.words.proofs.reading.read_begin.Lts as lts
-use Rattle.words.proofs.field.is_meant.Reads as is-meant-reads
-use Rattle.words.proofs.reading.checked.Reads as checked-reads
 
--- src/reading.rt:120:9
 is-meant-requires : tie.Need-is-meant-requires
 is-meant-requires c κs = search needs
 
--- src/reading.rt:119:5
 checked-requires : tie.Need-checked-requires
 checked-requires c κs = search needs
 
--- src/reading.rt:115:1
 returns : tie.Need-returns
 unfolding both
 returns c = rw (both-true, c .checked .ensures, c .before .is-meant .ensures)

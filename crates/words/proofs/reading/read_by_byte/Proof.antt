@@ -1,309 +1,237 @@
-use mir.Facts.{toZ-ofZ}
-use mir.Syntax.{w32}
 use Prim.Native.Nat.{_/_, _%_, _^_}
 use native.Mathlib.Omega.{arith}
+use mir.Facts.{toZ-ofZ}
+use mir.Syntax.{w32}
+use borrow.Author.Needs.{needs, sfits-of}
 use borrow.Author.Tests.{le-leb}
 use Rattle.words.specs.Fields.{both}
 use Rattle.words.specs.Words.{checked}
 use Rattle.words.proofs.Table.{past, unlisted}
-use borrow.Author.Needs.{needs, sfits-of}
 use Rattle.words.proofs.reading.read_by_byte.Statement.{statement}
 use Rattle.words.proofs.reading.read_by_byte.Tie as tie
-use Rattle.words.proofs.reading.read_by_byte.Reads as reads
-use Rattle.words.proofs.reading.read_by_byte.Lts as lts
-use Rattle.words.proofs.reading.read_begin.Reads as read-begin-reads
-use Rattle.words.proofs.reading.read_bitmap_layout.Reads as read-bitmap-layout-reads
-use Rattle.words.proofs.reading.read_blend_func.Reads as read-blend-func-reads
-use Rattle.words.proofs.reading.read_scissor_size.Reads as read-scissor-size-reads
-use Rattle.words.proofs.reading.read_stencil_func.Reads as read-stencil-func-reads
-use Rattle.words.proofs.reading.read_stencil_op.Reads as read-stencil-op-reads
-use Rattle.words.proofs.reading.read_vertex_format.Reads as read-vertex-format-reads
-use Rattle.words.proofs.reading.sign.Reads as sign-reads
 
--- src/reading.rt:156:17
 read-bitmap-layout-requires : tie.Need-read-bitmap-layout-requires
 read-bitmap-layout-requires c κs = search needs
 
--- src/reading.rt:168:17
 read-stencil-func-requires : tie.Need-read-stencil-func-requires
 read-stencil-func-requires c κs = search needs
 
--- src/reading.rt:169:17
 read-blend-func-requires : tie.Need-read-blend-func-requires
 read-blend-func-requires c κs = search needs
 
--- src/reading.rt:170:17
 read-stencil-op-requires : tie.Need-read-stencil-op-requires
 read-stencil-op-requires c κs = search needs
 
--- src/reading.rt:180:16
 sign-requires : tie.Need-sign-requires
 sign-requires c κs = search needs
 
--- src/reading.rt:183:16
 sign-requires-2 : tie.Need-sign-requires-2
 sign-requires-2 c κs = search needs
 
--- src/reading.rt:186:16
 sign-requires-3 : tie.Need-sign-requires-3
 sign-requires-3 c κs = search needs
 
--- src/reading.rt:189:16
 sign-requires-4 : tie.Need-sign-requires-4
 sign-requires-4 c κs = search needs
 
--- src/reading.rt:192:16
 sign-requires-5 : tie.Need-sign-requires-5
 sign-requires-5 c κs = search needs
 
--- src/reading.rt:195:16
 sign-requires-6 : tie.Need-sign-requires-6
 sign-requires-6 c κs = search needs
 
--- src/reading.rt:201:17
 read-scissor-size-requires : tie.Need-read-scissor-size-requires
 read-scissor-size-requires c κs = search needs
 
--- src/reading.rt:204:17
 read-begin-requires : tie.Need-read-begin-requires
 read-begin-requires c κs = search needs
 
--- src/reading.rt:221:17
 read-vertex-format-requires : tie.Need-read-vertex-format-requires
 read-vertex-format-requires c κs = search needs
 
--- src/reading.rt:232:16
 sign-requires-7 : tie.Need-sign-requires-7
 sign-requires-7 c κs = search needs
 
--- src/reading.rt:235:16
 sign-requires-8 : tie.Need-sign-requires-8
 sign-requires-8 c κs = search needs
 
--- src/reading.rt:136:1
 returns : tie.Need-returns
 unfolding checked both
 returns c = rw (c .match .keys1)
 
--- src/reading.rt:136:1
 returns-2 : tie.Need-returns-2
 unfolding checked both
 returns-2 c = rw (c .match .keys2)
 
--- src/reading.rt:136:1
 returns-3 : tie.Need-returns-3
 unfolding checked both
 returns-3 c = rw (c .match .keys3)
 
--- src/reading.rt:136:1
 returns-4 : tie.Need-returns-4
 unfolding checked both
 returns-4 c = rw (c .match .keys4)
 
--- src/reading.rt:136:1
 returns-5 : tie.Need-returns-5
 unfolding checked both
 returns-5 c = rw (c .match .keys5)
 
--- src/reading.rt:136:1
 returns-6 : tie.Need-returns-6
 unfolding checked both
 returns-6 c = rw (c .match .keys6)
 
--- src/reading.rt:136:1
 returns-7 : tie.Need-returns-7
 unfolding checked both
 returns-7 c = rw (c .match .keys7)
 
--- src/reading.rt:136:1
 returns-8 : tie.Need-returns-8
 returns-8 c = rw (c .before .match .keys8) (c .read-bitmap-layout .ensures)
 
--- src/reading.rt:136:1
 returns-9 : tie.Need-returns-9
 unfolding checked both
 returns-9 c = rw (c .match .keys9)
 
--- src/reading.rt:136:1
 returns-10 : tie.Need-returns-10
 unfolding checked both
 returns-10 c = rw (c .match .keys10, le-leb (c .before .args .w / 256 % 8) 7 (omega arith))
 
--- src/reading.rt:136:1
 returns-11 : tie.Need-returns-11
 returns-11 c = rw (c .before .match .keys11) (c .read-stencil-func .ensures)
 
--- src/reading.rt:136:1
 returns-12 : tie.Need-returns-12
 returns-12 c = rw (c .before .match .keys12) (c .read-blend-func .ensures)
 
--- src/reading.rt:136:1
 returns-13 : tie.Need-returns-13
 returns-13 c = rw (c .before .match .keys13) (c .read-stencil-op .ensures)
 
--- src/reading.rt:136:1
 returns-14 : tie.Need-returns-14
 unfolding checked both
 returns-14 c = rw (c .match .keys14)
 
--- src/reading.rt:136:1
 returns-15 : tie.Need-returns-15
 unfolding checked both
 returns-15 c = rw (c .match .keys15)
 
--- src/reading.rt:136:1
 returns-16 : tie.Need-returns-16
 unfolding checked both
 returns-16 c = rw (c .match .keys16)
 
--- src/reading.rt:136:1
 returns-17 : tie.Need-returns-17
 unfolding checked both
 returns-17 c = rw (c .match .keys17)
 
--- src/reading.rt:136:1
 returns-18 : tie.Need-returns-18
 unfolding checked both
 returns-18 c = rw (c .match .keys18)
 
--- src/reading.rt:136:1
 returns-19 : tie.Need-returns-19
 unfolding checked both
 returns-19 c = rw (c .match .keys19)
 
--- src/reading.rt:136:1
 returns-20 : tie.Need-returns-20
 unfolding checked both
 returns-20 c = rw (c .match .keys20)
 
--- src/reading.rt:136:1
 returns-21 : tie.Need-returns-21
 unfolding checked both
 returns-21 c = rw (c .match .keys21)
 
--- src/reading.rt:136:1
 returns-22 : tie.Need-returns-22
 unfolding checked both
 returns-22 c = rw (c .before .match .keys22, toZ-ofZ {w = w32} (sfits-of (c .sign .ok)), c .sign .ensures)
 
--- src/reading.rt:136:1
 returns-23 : tie.Need-returns-23
 unfolding checked both
 returns-23 c = rw (c .before .match .keys23, toZ-ofZ {w = w32} (sfits-of (c .sign2 .ok)), c .sign2 .ensures)
 
--- src/reading.rt:136:1
 returns-24 : tie.Need-returns-24
 unfolding checked both
 returns-24 c = rw (c .before .match .keys24, toZ-ofZ {w = w32} (sfits-of (c .sign3 .ok)), c .sign3 .ensures)
 
--- src/reading.rt:136:1
 returns-25 : tie.Need-returns-25
 unfolding checked both
 returns-25 c = rw (c .before .match .keys25, toZ-ofZ {w = w32} (sfits-of (c .sign4 .ok)), c .sign4 .ensures)
 
--- src/reading.rt:136:1
 returns-26 : tie.Need-returns-26
 unfolding checked both
 returns-26 c = rw (c .before .match .keys26, toZ-ofZ {w = w32} (sfits-of (c .sign5 .ok)), c .sign5 .ensures)
 
--- src/reading.rt:136:1
 returns-27 : tie.Need-returns-27
 unfolding checked both
 returns-27 c = rw (c .before .match .keys27, toZ-ofZ {w = w32} (sfits-of (c .sign6 .ok)), c .sign6 .ensures)
 
--- src/reading.rt:136:1
 returns-28 : tie.Need-returns-28
 unfolding checked both
 returns-28 c = rw (c .match .keys28)
 
--- src/reading.rt:136:1
 returns-29 : tie.Need-returns-29
 returns-29 c = rw (c .before .match .keys29) (c .read-scissor-size .ensures)
 
--- src/reading.rt:136:1
 returns-30 : tie.Need-returns-30
 unfolding checked both
 returns-30 c = rw (c .match .keys30)
 
--- src/reading.rt:136:1
 returns-31 : tie.Need-returns-31
 unfolding checked both
 returns-31 c = rw (c .match .keys31)
 
--- src/reading.rt:136:1
 returns-32 : tie.Need-returns-32
 returns-32 c = rw (c .before .match .keys32) (c .read-begin .ensures)
 
--- src/reading.rt:136:1
 returns-33 : tie.Need-returns-33
 unfolding checked both
 returns-33 c = rw (c .match .keys33)
 
--- src/reading.rt:136:1
 returns-34 : tie.Need-returns-34
 unfolding checked both
 returns-34 c = rw (c .match .keys34)
 
--- src/reading.rt:136:1
 returns-35 : tie.Need-returns-35
 unfolding checked both
 returns-35 c = rw (c .match .keys35)
 
--- src/reading.rt:136:1
 returns-36 : tie.Need-returns-36
 unfolding checked both
 returns-36 c = rw (c .match .keys36)
 
--- src/reading.rt:136:1
 returns-37 : tie.Need-returns-37
 unfolding checked both
 returns-37 c = rw (c .match .keys37)
 
--- src/reading.rt:136:1
 returns-38 : tie.Need-returns-38
 unfolding checked both
 returns-38 c = rw (c .match .keys38)
 
--- src/reading.rt:136:1
 returns-39 : tie.Need-returns-39
 unfolding checked both
 returns-39 c = rw (c .match .keys39)
 
--- src/reading.rt:136:1
 returns-40 : tie.Need-returns-40
 returns-40 c = rw (c .before .match .keys40) (c .read-vertex-format .ensures)
 
--- src/reading.rt:136:1
 returns-41 : tie.Need-returns-41
 unfolding checked both
 returns-41 c = rw (c .match .keys41)
 
--- src/reading.rt:136:1
 returns-42 : tie.Need-returns-42
 unfolding checked both
 returns-42 c = rw (c .match .keys42)
 
--- src/reading.rt:136:1
 returns-43 : tie.Need-returns-43
 unfolding checked both
 returns-43 c = rw (c .match .keys43)
 
--- src/reading.rt:136:1
 returns-44 : tie.Need-returns-44
 unfolding checked both
 returns-44 c = rw (c .before .match .keys44, toZ-ofZ {w = w32} (sfits-of (c .sign7 .ok)), c .sign7 .ensures)
 
--- src/reading.rt:136:1
 returns-45 : tie.Need-returns-45
 unfolding checked both
 returns-45 c = rw (c .before .match .keys45, toZ-ofZ {w = w32} (sfits-of (c .sign8 .ok)), c .sign8 .ensures)
 
--- src/reading.rt:136:1
 returns-46 : tie.Need-returns-46
 unfolding checked both
 returns-46 c = rw (c .match .keys46)
 
--- src/reading.rt:136:1
 returns-47 : tie.Need-returns-47
 returns-47 c = rw (unlisted (c .before .args .w / 2 ^ 24) (past 46 _ (c .match .rest)) (search needs) (search needs))
 

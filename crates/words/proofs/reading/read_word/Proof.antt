@@ -1,44 +1,33 @@
+use Prim.Native.Nat.{_/_, _^_}
 use mir.Facts.{toZ-ofZ}
 use mir.Syntax.{w32}
-use Prim.Native.Nat.{_/_, _^_}
+use borrow.Author.Needs.{needs, sfits-of}
 use Rattle.words.specs.Fields.{both}
 use Rattle.words.specs.Words.{checked}
 use Rattle.words.proofs.Table.{past, no-vertex}
-use borrow.Author.Needs.{needs, sfits-of}
 use Rattle.words.proofs.reading.read_word.Statement.{statement}
 use Rattle.words.proofs.reading.read_word.Tie as tie
-use Rattle.words.proofs.reading.read_word.Reads as reads
-use Rattle.words.proofs.reading.read_word.Lts as lts
-use Rattle.words.proofs.reading.read_by_byte.Reads as read-by-byte-reads
-use Rattle.words.proofs.reading.sign.Reads as sign-reads
 
--- src/reading.rt:246:14
 read-by-byte-requires : tie.Need-read-by-byte-requires
 read-by-byte-requires c κs = search needs
 
--- src/reading.rt:248:16
 sign-requires : tie.Need-sign-requires
 sign-requires c κs = search needs
 
--- src/reading.rt:249:16
 sign-requires-2 : tie.Need-sign-requires-2
 sign-requires-2 c κs = search needs
 
--- src/reading.rt:242:1
 returns : tie.Need-returns
 returns c = rw (c .before .match .keys1) (c .read-by-byte .ensures)
 
--- src/reading.rt:242:1
 returns-2 : tie.Need-returns-2
 unfolding checked both
 returns-2 c = rw (c .before .before .match .keys2, toZ-ofZ {w = w32} (sfits-of (c .before .sign .ok)), toZ-ofZ {w = w32} (sfits-of (c .sign2 .ok)), c .before .sign .ensures, c .sign2 .ensures)
 
--- src/reading.rt:242:1
 returns-3 : tie.Need-returns-3
 unfolding checked both
 returns-3 c = rw (c .match .keys3)
 
--- src/reading.rt:242:1
 returns-4 : tie.Need-returns-4
 returns-4 c = rw (no-vertex (c .before .args .w / 2 ^ 30) (c .before .args .w) (past 3 _ (c .match .rest)))
 

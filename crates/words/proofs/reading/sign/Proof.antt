@@ -1,34 +1,27 @@
 use Prim.Native.Nat.{ℕ, suc, _+_, _-_, _^_, _<_, _≤_}
 use mathlib.Core.Path.{_≡_}
 use native.Mathlib.Omega.{arith}
-use lib.IntN.{negsuc, pos, _-ℤ_}
+use lib.IntN.{negsuc, _-ℤ_}
+use mir.Facts.{toZ-pos, toZ-ofZ}
 use mir.Syntax.{w32}
 use mir.Val.{toZ}
-use mir.Facts.{toZ-pos, toZ-ofZ}
-use Rattle.words.proofs.Signs.{int-low, int-high, sub-below}
 use borrow.Author.Needs.{needs, sfits-of}
+use Rattle.words.proofs.Signs.{int-low, int-high, sub-below}
 use Rattle.words.proofs.reading.sign.Statement.{statement}
 use Rattle.words.proofs.reading.sign.Tie as tie
-use Rattle.words.proofs.reading.sign.Reads as reads
-use Rattle.words.proofs.reading.sign.Lts as lts
 
--- src/reading.rt:34:16
 cast-result : tie.Need-cast-result
 cast-result c = search needs
 
--- src/reading.rt:34:9
 returns : tie.Need-returns
 returns c = rw (toZ-pos w32 {n = c .before .args .n} (omega arith), int-low (c .before .args .half) (c .before .args .n) (c .if1 .taken) (omega arith))
 
--- src/reading.rt:36:5
 cast-result-2 : tie.Need-cast-result-2
 cast-result-2 c = search needs
 
--- src/reading.rt:36:17
 add-result : tie.Need-add-result
 add-result c = search needs
 
--- src/reading.rt:36:16
 cast-result-3 : tie.Need-cast-result-3
 cast-result-3 c = search needs
 
@@ -39,7 +32,6 @@ diff n half h l = rw (toZ-pos w32 {n = n} (omega arith), toZ-pos w32 {n = half +
 sub-result : tie.Need-sub-result
 sub-result c = rw (diff (c .before .args .n) (c .before .args .half) (omega arith) (omega arith)) (sfits-of (omega arith))
 
--- src/reading.rt:29:1
 returns-2 : tie.Need-returns-2
 returns-2 c =
     rw (

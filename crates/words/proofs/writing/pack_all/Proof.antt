@@ -1,33 +1,24 @@
 use native.Mathlib.Omega.{arith}
-use Rattle.words.proofs.Packing.{first-room, next-room}
 use borrow.Author.Needs.{needs}
+use Rattle.words.proofs.Packing.{first-room, next-room}
 use Rattle.words.proofs.writing.pack_all.Statement.{statement}
 use Rattle.words.proofs.writing.pack_all.Tie as tie
-use Rattle.words.proofs.writing.pack_all.Reads as reads
-use Rattle.words.proofs.writing.pack_all.Lts as lts
-use Rattle.words.proofs.writing.pack.Reads as pack-reads
 
--- src/writing.rt:56:9
 pack-requires : tie.Need-pack-requires
 pack-requires c κs = search needs
 
--- src/writing.rt:57:9
 pack-requires-2 : tie.Need-pack-requires-2
 pack-requires-2 c κs = let a = c .before .args in rw (c .pack .ensures) (next-room (a .fs .4) (a .s .5) (first-room (omega arith)) (omega arith))
 
--- src/writing.rt:58:9
 pack-requires-3 : tie.Need-pack-requires-3
 pack-requires-3 c κs = let a = c .before .before .args in rw (c .pack2 .ensures, c .before .pack .ensures) (next-room (a .fs .3) (a .s .4) (next-room (a .fs .4) (a .s .5) (first-room (omega arith)) (omega arith)) (omega arith))
 
--- src/writing.rt:59:9
 pack-requires-4 : tie.Need-pack-requires-4
 pack-requires-4 c κs = let a = c .before .before .before .args in rw (c .pack3 .ensures, c .before .pack2 .ensures, c .before .before .pack .ensures) (next-room (a .fs .2) (a .s .3) (next-room (a .fs .3) (a .s .4) (next-room (a .fs .4) (a .s .5) (first-room (omega arith)) (omega arith)) (omega arith)) (omega arith))
 
--- src/writing.rt:60:9
 pack-requires-5 : tie.Need-pack-requires-5
 pack-requires-5 c κs = let a = c .before .before .before .before .args in rw (c .pack4 .ensures, c .before .pack3 .ensures, c .before .before .pack2 .ensures, c .before .before .before .pack .ensures) (next-room (a .fs .1) (a .s .2) (next-room (a .fs .2) (a .s .3) (next-room (a .fs .3) (a .s .4) (next-room (a .fs .4) (a .s .5) (first-room (omega arith)) (omega arith)) (omega arith)) (omega arith)) (omega arith))
 
--- src/writing.rt:46:1
 returns : tie.Need-returns
 returns c = rw (c .pack5 .ensures, c .before .pack4 .ensures, c .before .before .pack3 .ensures, c .before .before .before .pack2 .ensures, c .before .before .before .before .pack .ensures)
 
