@@ -1,7 +1,7 @@
 -- jv_read_word and jv_write_word: no second answer fits, and reading what was written gives the same numbers.
 -- Assumes nothing.
 use Prim.Native.Nat.{ℕ}
-use mathlib.Core.Path.{_≡_, refl, sym, ap, _∙_, subst}
+use mathlib.Core.Path.{_≡_, refl, sym, ap, _∙_}
 use native.Mathlib.Omega.{arith}
 use Rattle.words.specs.declared.reading.Read.{Read}
 use Rattle.words.specs.declared.reading.Read.the-variants as r

@@ -10,23 +10,13 @@ use Rattle.words.specs.declared.field.Field.the-variants.{Bits}
 use Rattle.words.specs.declared.field.Layout.{Layout}
 use Rattle.words.specs.declared.field.Layout.the-variants.{NoCommand, None, One, Two, Three, Four, Five}
 use Rattle.words.specs.declared.spelling.Spelling.{Spelling}
-use Rattle.words.specs.declared.writing.Packed.{Packed}
 use Rattle.words.specs.declared.writing.Written.{Written}
 use Rattle.words.specs.declared.writing.Written.the-variants as o
 use Rattle.words.specs.Fields.{width, total, fit, join}
-use Rattle.words.specs.Layout.{laid, layoutOf, packed, Room}
+use Rattle.words.specs.Layout.{laid, layoutOf}
 use Rattle.words.specs.Table.{row, Found, none, some, rowOf, numbers}
 use Rattle.words.specs.Words.{encoded, writeAs, writeSpelling}
-use Rattle.words.proofs.Digits.{laid-lt}
 use Rattle.words.proofs.Table.{Sound, sound}
-
--- PACKING.
-
-pub first-room : {f : Field} → width f + 0 ≤ 30 → Room (record { bits = 0; used = 0 }) f
-first-room h = record { below = omega arith; enough = h }
-
-pub next-room : {l : Packed} {f : Field} (g : Field) (n : ℕ) → Room l g → width f + (width g + l .used) ≤ 30 → Room (packed l g n) f
-next-room {l} {f} g n r h = record { below = laid-lt (width g) (l .used) n (l .bits) (r .below); enough = h }
 
 -- FIELDS WITHOUT BITS after a command's own change nothing.
 

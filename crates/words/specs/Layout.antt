@@ -1,10 +1,10 @@
 -- How the code keeps a row of the table and packs a word. The meaning of a word does not rest on this page.
 use Prim.Native.Nat.{ℕ, _+_, _*_, _%_, _^_, _≤_, _<_}
 use mathlib.Core.List.{List, [], _∷_}
+use mathlib.Core.Path.{_≡_}
 use Rattle.words.specs.declared.field.Field.{Field}
 use Rattle.words.specs.declared.field.Layout.{Layout}
 use Rattle.words.specs.declared.field.Layout.the-variants.{NoCommand, None, One, Two, Three, Four, Five}
-use Rattle.words.specs.declared.writing.Fields.{Fields}
 use Rattle.words.specs.declared.writing.Packed.{Packed}
 use Rattle.words.specs.Fields.{width}
 use Rattle.words.specs.Table.{row, Found, none, some}
@@ -23,13 +23,16 @@ abbrev pub layoutOf : Found → Layout
 layoutOf none = NoCommand
 layoutOf (some (row code fs make)) = laid fs
 
-abbrev pub listed : Fields → List Field
-listed fs = fs .0 ∷ fs .1 ∷ fs .2 ∷ fs .3 ∷ fs .4 ∷ []
+abbrev pub five : Field → Field → Field → Field → Field → List Field
+five a b c d e = a ∷ b ∷ c ∷ d ∷ e ∷ []
 
--- a field laid above the bits that are packed already
-abbrev pub packed : Packed → Field → ℕ → Packed
-packed low f n = record { bits = n % 2 ^ width f * 2 ^ low .used + low .bits; used = width f + low .used }
-
+-- there is room for a field above the bits that are packed already
 pub record Room (low : Packed) (f : Field) : Type 0 where
   pub below : low .bits < 2 ^ low .used
   pub enough : width f + low .used ≤ 30
+
+-- the number n laid into that field
+pub record Laid (low : Packed) (f : Field) (n : ℕ) (r : Packed) : Type 0 where
+  pub bits : r .bits ≡ n % 2 ^ width f * 2 ^ low .used + low .bits
+  pub used : r .used ≡ width f + low .used
+  pub below : r .bits < 2 ^ r .used

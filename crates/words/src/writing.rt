@@ -3,7 +3,7 @@ ghost use mathlib.Core.Path.{_≡_};
 ghost use Prim.Native.Nat.{_+_, _^_, _≤_, _<_};
 ghost use Rattle.words.specs.Fields.{fit, join, total};
 ghost use Rattle.words.specs.Table.{numbers};
-ghost use Rattle.words.specs.Layout.{Room, listed, packed};
+ghost use Rattle.words.specs.Layout.{Laid, Room, five};
 ghost use Rattle.words.specs.Words.{encoded, writeSpelling, writeWord, written};
 use crate::field::Field;
 use crate::field::Layout;
@@ -23,9 +23,6 @@ pub enum Written {
     NoMeaning,
 }
 
-// Five fields from the high bits down: those that a command does not have come last and have no bits.
-pub struct Fields(pub Field, pub Field, pub Field, pub Field, pub Field);
-
 // The lowest bits of a word, `used` of them.
 pub struct Packed {
     pub bits: u32,
@@ -34,42 +31,37 @@ pub struct Packed {
 
 fn pack(low: Packed, field: Field, n: u32) -> Packed
     requires { ⌜ Room low field ⌝ }
-    ensures { λ r. ⌜ r ≡ packed low field n ⌝ }
+    ensures { λ r. ⌜ Laid low field n r ⌝ }
 {
     let width = width_of(field);
+    let own = n % power(width);
+    let lifted = own * power(low.used);
+    let bits = lifted + low.bits;
+    let used = width + low.used;
     Packed {
-        bits: n % power(width) * power(low.used) + low.bits,
-        used: width + low.used,
+        bits: bits,
+        used: used,
     }
 }
 
-fn pack_all(s: Spelling, fs: Fields) -> u32
-    requires { ⌜ total (listed fs) ≤ 30 ⌝ }
-    ensures { λ r. ⌜ r ≡ join (listed fs) (numbers s) ⌝ }
+// The numbers laid into five fields from the high bits down. Those that a command does not have come last and have no bits.
+fn pack_all(s: Spelling, a: Field, b: Field, c: Field, d: Field, e: Field) -> u32
+    requires { ⌜ total (five a b c d e) ≤ 30 ⌝ }
+    ensures { λ r. ⌜ r ≡ join (five a b c d e) (numbers s) ⌝ }
 {
-    let a = fs.0;
-    let b = fs.1;
-    let c = fs.2;
-    let d = fs.3;
-    let e = fs.4;
-    let p0 = Packed { bits: 0, used: 0 };
-    let p1 = pack(p0, e, s.5);
-    let p2 = pack(p1, d, s.4);
-    let p3 = pack(p2, c, s.3);
-    let p4 = pack(p3, b, s.2);
-    let p5 = pack(p4, a, s.1);
-    p5.bits
+    let none = Packed { bits: 0, used: 0 };
+    let one = pack(none, e, s.5);
+    let two = pack(one, d, s.4);
+    let three = pack(two, c, s.3);
+    let four = pack(three, b, s.2);
+    let five = pack(four, a, s.1);
+    five.bits
 }
 
-fn is_fit(s: Spelling, fs: Fields) -> bool
-    requires { ⌜ total (listed fs) ≤ 30 ⌝ }
-    ensures { λ r. ⌜ r ≡ fit (listed fs) (numbers s) ⌝ }
+fn is_fit(s: Spelling, a: Field, b: Field, c: Field, d: Field, e: Field) -> bool
+    requires { ⌜ total (five a b c d e) ≤ 30 ⌝ }
+    ensures { λ r. ⌜ r ≡ fit (five a b c d e) (numbers s) ⌝ }
 {
-    let a = fs.0;
-    let b = fs.1;
-    let c = fs.2;
-    let d = fs.3;
-    let e = fs.4;
     both(
         is_held(a, s.1),
         both(
@@ -79,12 +71,14 @@ fn is_fit(s: Spelling, fs: Fields) -> bool
     )
 }
 
-fn encode(s: Spelling, fs: Fields) -> Written
-    requires { ⌜ (s .0 ≤ 128) × (total (listed fs) ≤ 30) ⌝ }
-    ensures { λ r. ⌜ r ≡ encoded (listed fs) s ⌝ }
+fn encode(s: Spelling, a: Field, b: Field, c: Field, d: Field, e: Field) -> Written
+    requires { ⌜ (s .0 ≤ 128) × (total (five a b c d e) ≤ 30) ⌝ }
+    ensures { λ r. ⌜ r ≡ encoded (five a b c d e) s ⌝ }
 {
-    if is_fit(s, fs) {
-        return Written::Bits(s.0 * 16777216 + pack_all(s, fs));
+    if is_fit(s, a, b, c, d, e) {
+        let top = s.0 * 16777216;
+        let bits = top + pack_all(s, a, b, c, d, e);
+        return Written::Bits(bits);
     }
     Written::NoMeaning
 }
@@ -96,12 +90,12 @@ pub fn write_spelling(s: Spelling) -> Written
     let fields = fields_of(s.0);
     match fields {
         Layout::NoCommand => Written::NoCommand,
-        Layout::None => encode(s, Fields(no, no, no, no, no)),
-        Layout::One(a) => encode(s, Fields(a, no, no, no, no)),
-        Layout::Two(a, b) => encode(s, Fields(a, b, no, no, no)),
-        Layout::Three(a, b, c) => encode(s, Fields(a, b, c, no, no)),
-        Layout::Four(a, b, c, d) => encode(s, Fields(a, b, c, d, no)),
-        Layout::Five(a, b, c, d, e) => encode(s, Fields(a, b, c, d, e)),
+        Layout::None => encode(s, no, no, no, no, no),
+        Layout::One(a) => encode(s, a, no, no, no, no),
+        Layout::Two(a, b) => encode(s, a, b, no, no, no),
+        Layout::Three(a, b, c) => encode(s, a, b, c, no, no),
+        Layout::Four(a, b, c, d) => encode(s, a, b, c, d, no),
+        Layout::Five(a, b, c, d, e) => encode(s, a, b, c, d, e),
     }
 }
 

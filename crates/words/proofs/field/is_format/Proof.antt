@@ -15,7 +15,13 @@ either-requires-2 : tie.Need-either-requires-2
 either-requires-2 c κs = search needs
 
 returns : tie.Need-returns
-returns c = cc
+returns c =
+    rw (
+      c .either2 .ensures,
+      c .before .either .ensures,
+      c .before .before .both2 .ensures,
+      c .before .before .before .both .ensures,
+    )
 
 pub is-format-spec : {M : Type 1} → statement M
 is-format-spec =

@@ -1,9 +1,6 @@
-use mathlib.Core.Bool.{true, false}
-use mathlib.Core.Path.{_≡_, sym, _∙_}
 use native.Mathlib.Omega.{arith}
 use borrow.Author.Needs.{needs}
-use Rattle.words.specs.Fields.{fit}
-use Rattle.words.specs.Layout.{listed}
+use Rattle.words.specs.Layout.{five}
 use Rattle.words.specs.Table.{numbers}
 use Rattle.words.specs.Words.{written}
 use Rattle.words.proofs.Digits.{join-fits}
@@ -13,16 +10,18 @@ use Rattle.words.proofs.writing.encode.Tie as tie
 is-fit-requires : tie.Need-is-fit-requires
 is-fit-requires c κs = search needs
 
-mul-t4 : tie.Need-mul-t4
-mul-t4 c = search needs
+mul-top : tie.Need-mul-top
+mul-top c = search needs
 
 pack-all-requires : tie.Need-pack-all-requires
 pack-all-requires c κs = search needs
 
-add-t6 : tie.Need-add-t6
-add-t6 c =
+add-bits : tie.Need-add-bits
+add-bits c =
     let start = c .before .before .before .before in
-    rw (c .pack-all .ensures) (omega (arith, join-fits (listed (start .args .fs)) (numbers (start .args .s)) (start .pre .1)))
+    let a = start .args in
+    rw (c .pack-all .ensures)
+    (omega (arith, join-fits (five (a .a) (a .b) (a .c) (a .d) (a .e)) (numbers (a .s)) (start .pre .1)))
 
 returns : tie.Need-returns
 unfolding written
@@ -34,4 +33,4 @@ returns-2 c = rw (← c .before .is-fit .ensures, c .if1 .left)
 
 pub encode-spec : {M : Type 1} → statement M
 encode-spec =
-    tie.close (tie.spec is-fit-requires mul-t4 pack-all-requires add-t6 returns returns-2)
+    tie.close (tie.spec is-fit-requires mul-top pack-all-requires add-bits returns returns-2)

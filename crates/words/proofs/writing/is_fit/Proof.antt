@@ -1,5 +1,4 @@
 use borrow.Author.Needs.{needs}
-use Rattle.words.specs.Fields.{holds}
 use Rattle.words.proofs.Table.{both-true}
 use Rattle.words.proofs.writing.is_fit.Statement.{statement}
 use Rattle.words.proofs.writing.is_fit.Tie as tie
@@ -32,7 +31,19 @@ both-requires-4 : tie.Need-both-requires-4
 both-requires-4 c κs = search needs
 
 returns : tie.Need-returns
-returns c = cc (both-true (holds (c .before .before .before .before .before .before .before .before .before .args .fs .4) (c .before .before .before .before .before .before .before .before .before .args .s .5)))
+returns c =
+    rw (
+      c .both4 .ensures,
+      c .before .both3 .ensures,
+      c .before .before .both2 .ensures,
+      c .before .before .before .both .ensures,
+      c .before .before .before .before .is-held5 .ensures,
+      c .before .before .before .before .before .is-held4 .ensures,
+      c .before .before .before .before .before .before .is-held3 .ensures,
+      c .before .before .before .before .before .before .before .is-held2 .ensures,
+      c .before .before .before .before .before .before .before .before .is-held .ensures,
+      both-true,
+    )
 
 pub is-fit-spec : {M : Type 1} → statement M
 is-fit-spec =
