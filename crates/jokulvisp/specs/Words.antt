@@ -1,5 +1,5 @@
--- What jv_read_word and jv_write_word answer. Document 01, 'Number table': a word read or written alone gives 0, 11 or 12. ARCHITECTURE, 'What C
--- sees': the command's number and its fields as plain numbers; where the number is not 0 the rest is 0.
+-- What jv_read_word and jv_write_word answer. Document 01, 'Number table': 'A word read or written alone gives only 0, 11 or 12'.
+-- include/jokulvisp.h: the command's number and its fields as plain numbers; where the number is not 0 the rest is 0.
 use Prim.Native.Nat.{ℕ}
 use mathlib.Core.Path.{_≡_}
 use Rattle.words.specs.declared.reading.Read.{Read}

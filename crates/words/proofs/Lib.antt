@@ -2,5 +2,6 @@ pub mod Digits
 pub mod Examples
 pub mod Packing
 pub mod Round
+pub mod Rows
 pub mod Signs
 pub mod Table

@@ -68,6 +68,7 @@ laid-writes (a ∷ b ∷ c ∷ d ∷ e ∷ []) s h = refl
 laid-writes (a ∷ b ∷ c ∷ d ∷ e ∷ f ∷ fs) s h = absurd (omega arith)
 
 pub written-as : (s : Spelling) (l : Layout) → layoutOf (rowOf (s .0)) ≡ l → writeSpelling s ≡ writeLaid l s
+unfolding writeSpelling
 written-as s l e = go (rowOf (s .0)) (sound (s .0)) ∙ ap (λ (x : Layout). writeLaid x s) e
   where
     go : (f : Found) → Sound (s .0) f → writeAs f s ≡ writeLaid (layoutOf f) s

@@ -1,7 +1,7 @@
 -- The fields of a command: which numbers they hold, which of those have a meaning, and where they lie in a word.
 -- The guide, 4.2: a command's parameters lie in the least significant bits; each section's table gives their widths, from the
--- high bits down and with no gap. Document 01, row 12: which numbers have no meaning. ARCHITECTURE's C calls pass a signed field
--- as 32 bits in two's complement, and so does every list of numbers here.
+-- high bits down and with no gap. Document 01, row 12: which numbers have no meaning. A list of numbers here has a signed field as
+-- include/jokulvisp.h passes it, as 32 bits in two's complement.
 use Prim.Native.Nat.{ℕ, suc, _+_, _-_, _*_, _/_, _%_, _^_}
 use mathlib.Core.Bool.{Bool, true, false}
 use mathlib.Core.List.{List, [], _∷_}

@@ -32,7 +32,7 @@ abbrev pub readAs : Found → ℕ → Read
 readAs none w = r.NoCommand
 readAs (some (row code fs make)) w = checked (allMean fs (values fs w)) (apply fs make (values fs w))
 
-abbrev pub readWord : ℕ → Read
+unfoldable pub readWord : ℕ → Read
 readWord w = readAs (rowOf (command w)) w
 
 -- WRITING. 11 as in reading, 12 also for a field that its bits cannot hold. Bits that no field has are 0.
@@ -47,7 +47,7 @@ abbrev pub writeAs : Found → Spelling → Written
 writeAs none s = o.NoCommand
 writeAs (some (row code fs make)) s = encoded fs s
 
-abbrev pub writeSpelling : Spelling → Written
+unfoldable pub writeSpelling : Spelling → Written
 writeSpelling s = writeAs (rowOf (s .0)) s
 
 abbrev pub writeWord : Word → Written
@@ -58,7 +58,7 @@ abbrev pub clearedAs : Found → ℕ → ℕ
 clearedAs none w = w
 clearedAs (some (row code fs make)) w = command w * 2 ^ 24 + w % 2 ^ total fs
 
-abbrev pub cleared : ℕ → ℕ
+unfoldable pub cleared : ℕ → ℕ
 cleared w = clearedAs (rowOf (command w)) w
 
 -- THE NUMBERS of document 01's table.
