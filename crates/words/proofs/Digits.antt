@@ -2,7 +2,7 @@
 -- Assumes nothing.
 use Prim.Native.Nat.{ℕ, suc, _+_, _*_, _-_, _/_, _%_, _^_, _<_, _≤_}
 use mathlib.Core.Path.{_≡_, refl, sym, ap, _∙_}
-use mathlib.Core.Bool.{Bool, true, false}
+use mathlib.Core.Bool.{Bool, true, false, cond}
 use mathlib.Core.List.{List, [], _∷_}
 use mathlib.Core.Logic.{⊎-elim}
 use native.Mathlib.Nat.{mod-lt, mod-eq-of-lt, mul-le-mul-right, pow-suc}
@@ -12,7 +12,7 @@ use lib.Pow.{pow-pos, pow-add, pow-mono, mod-pow-add, high, low, high-ones}
 use borrow.Author.Tests.{ltb-true, ltb-false, lt-ltb, le-ltb, le-leb, leb-true}
 use Rattle.words.specs.declared.field.Field.{Field}
 use Rattle.words.specs.declared.field.Field.the-variants.{Bits, Only, Signed}
-use Rattle.words.specs.Fields.{both, either, pick, extended, holdsSigned, width, value, means, holds, total, above, values, allMean, fit, join}
+use Rattle.words.specs.Fields.{both, either, extended, holdsSigned, width, value, means, holds, total, above, values, allMean, fit, join}
 use Rattle.words.proofs.Table.{signs, allSigns, both-left, both-right, both-of, either-cases}
 
 -- a digit below A before a number below B
@@ -57,7 +57,7 @@ module _ (k : ℕ) (wide : k ≤ 30) (some : 1 ≤ k) where
   extended-bits : (n : ℕ) → n < 2 ^ k → extended (2 ^ k / 2) n % 2 ^ k ≡ n
   extended-bits n h = go (ltb n (2 ^ k / 2))
     where
-      go : (t : Bool) → pick t n (2 ^ 32 - (2 ^ k / 2 + 2 ^ k / 2) + n) % 2 ^ k ≡ n
+      go : (t : Bool) → cond t n (2 ^ 32 - (2 ^ k / 2 + 2 ^ k / 2) + n) % 2 ^ k ≡ n
       go true = mod-eq-of-lt h
       go false = rw halves (upper n h)
 
@@ -65,7 +65,7 @@ module _ (k : ℕ) (wide : k ≤ 30) (some : 1 ≤ k) where
   unfolding holdsSigned both either
   extended-held n h = go (ltb n (2 ^ k / 2)) refl
     where
-      go : (t : Bool) → ltb n (2 ^ k / 2) ≡ t → holdsSigned (2 ^ k / 2) (pick t n (2 ^ 32 - (2 ^ k / 2 + 2 ^ k / 2) + n)) ≡ true
+      go : (t : Bool) → ltb n (2 ^ k / 2) ≡ t → holdsSigned (2 ^ k / 2) (cond t n (2 ^ 32 - (2 ^ k / 2 + 2 ^ k / 2) + n)) ≡ true
       go true e = rw e
       go false e =
           let l : 2 ^ k / 2 ≤ n = ltb-false _ _ e in

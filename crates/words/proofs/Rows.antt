@@ -2,7 +2,7 @@
 -- back. Assumes nothing.
 use Prim.Native.Nat.{ℕ, zero, suc, _+_, _*_, _-_, _/_, _%_, _^_, _<_, _≤_}
 use mathlib.Core.Path.{_≡_, refl, sym, ap, _∙_}
-use mathlib.Core.Bool.{Bool, true, false}
+use mathlib.Core.Bool.{Bool, true, false, cond}
 use mathlib.Core.List.{List, [], _∷_}
 use mathlib.Core.Logic.{⊎-elim}
 use native.Mathlib.Omega.{arith}
@@ -19,7 +19,7 @@ use Rattle.words.specs.declared.word.Word.{Word}
 use Rattle.words.specs.declared.word.Word.the-variants as v
 use Rattle.words.specs.declared.writing.Written.the-variants as o
 use Rattle.words.specs.Fields.{both, holds, complement, int, extended, total, values, fit, join}
-use Rattle.words.specs.Table.{Row, row, Make, rows, Found, none, some, pickFound, find, rowOf, apply, spelling, numbers, spelled}
+use Rattle.words.specs.Table.{Row, row, Make, rows, Found, none, some, find, rowOf, apply, spelling, numbers, spelled}
 use Rattle.words.specs.Words.{command, checked, readWord, written, encoded}
 use Rattle.words.proofs.Digits.{front, join-lt, values-join, fit-means}
 use Rattle.words.proofs.Signs.{complement-int, int-complement, extended-lt}
@@ -118,50 +118,19 @@ All (x ∷ xs) = Pair (Good x) (All xs)
 good : All rows
 good =
     (λ w. rw (signed-there 15 (w / 2 ^ 15 % 2 ^ 15) (omega arith) (lit≤ tt), signed-there 15 (w % 2 ^ 15) (omega arith) (lit≤ tt))) ⨾
-    (λ w. refl) ⨾
-    (λ w. refl) ⨾
-    (λ w. refl) ⨾
-    (λ w. refl) ⨾
-    (λ w. refl) ⨾
-    (λ w. refl) ⨾
-    (λ w. refl) ⨾
-    (λ w. refl) ⨾
-    (λ w. refl) ⨾
-    (λ w. refl) ⨾
-    (λ w. refl) ⨾
-    (λ w. refl) ⨾
-    (λ w. refl) ⨾
-    (λ w. refl) ⨾
-    (λ w. refl) ⨾
-    (λ w. refl) ⨾
-    (λ w. refl) ⨾
-    (λ w. refl) ⨾
-    (λ w. refl) ⨾
-    (λ w. refl) ⨾
-    (λ w. refl) ⨾
-    (λ w. refl) ⨾
+    (λ w. refl) ⨾ (λ w. refl) ⨾ (λ w. refl) ⨾ (λ w. refl) ⨾ (λ w. refl) ⨾ (λ w. refl) ⨾
+    (λ w. refl) ⨾ (λ w. refl) ⨾ (λ w. refl) ⨾ (λ w. refl) ⨾ (λ w. refl) ⨾ (λ w. refl) ⨾
+    (λ w. refl) ⨾ (λ w. refl) ⨾ (λ w. refl) ⨾ (λ w. refl) ⨾ (λ w. refl) ⨾ (λ w. refl) ⨾
+    (λ w. refl) ⨾ (λ w. refl) ⨾ (λ w. refl) ⨾ (λ w. refl) ⨾
     (λ w. rw (signed-there 17 (w % 2 ^ 17) (omega arith) (lit≤ tt))) ⨾
     (λ w. rw (signed-there 17 (w % 2 ^ 17) (omega arith) (lit≤ tt))) ⨾
     (λ w. rw (signed-there 24 (w % 2 ^ 24) (omega arith) (lit≤ tt))) ⨾
     (λ w. rw (signed-there 17 (w % 2 ^ 17) (omega arith) (lit≤ tt))) ⨾
     (λ w. rw (signed-there 17 (w % 2 ^ 17) (omega arith) (lit≤ tt))) ⨾
     (λ w. rw (signed-there 24 (w % 2 ^ 24) (omega arith) (lit≤ tt))) ⨾
-    (λ w. refl) ⨾
-    (λ w. refl) ⨾
-    (λ w. refl) ⨾
-    (λ w. refl) ⨾
-    (λ w. refl) ⨾
-    (λ w. refl) ⨾
-    (λ w. refl) ⨾
-    (λ w. refl) ⨾
-    (λ w. refl) ⨾
-    (λ w. refl) ⨾
-    (λ w. refl) ⨾
-    (λ w. refl) ⨾
-    (λ w. refl) ⨾
-    (λ w. refl) ⨾
-    (λ w. refl) ⨾
-    (λ w. refl) ⨾
+    (λ w. refl) ⨾ (λ w. refl) ⨾ (λ w. refl) ⨾ (λ w. refl) ⨾ (λ w. refl) ⨾ (λ w. refl) ⨾
+    (λ w. refl) ⨾ (λ w. refl) ⨾ (λ w. refl) ⨾ (λ w. refl) ⨾ (λ w. refl) ⨾ (λ w. refl) ⨾
+    (λ w. refl) ⨾ (λ w. refl) ⨾ (λ w. refl) ⨾ (λ w. refl) ⨾
     (λ w. rw (signed-there 17 (w % 2 ^ 17) (omega arith) (lit≤ tt))) ⨾
     (λ w. rw (signed-there 17 (w % 2 ^ 17) (omega arith) (lit≤ tt))) ⨾
     (λ w. refl) ⨾ tt
@@ -174,7 +143,7 @@ makes-in : (rs : List Row) (n : ℕ) → All rs → Makes n (find n rs)
 makes-in [] n g = tt
 makes-in (row code fs make ∷ rs) n (g ⨾ gs) = go (eqb n code) refl (makes-in rs n gs)
   where
-    go : (t : Bool) → eqb n code ≡ t → Makes n (find n rs) → Makes n (pickFound t (some (row code fs make)) (find n rs))
+    go : (t : Bool) → eqb n code ≡ t → Makes n (find n rs) → Makes n (cond t (some (row code fs make)) (find n rs))
     go true e rest = rw (eqb-true n code e) g
     go false e rest = rest
 

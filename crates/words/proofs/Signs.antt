@@ -2,14 +2,14 @@
 -- Assumes nothing.
 use Prim.Native.Nat.{ℕ, suc, zero, _+_, _-_, _^_, _<_, _≤_}
 use mathlib.Core.Path.{_≡_, refl, ap}
-use mathlib.Core.Bool.{Bool, true, false}
+use mathlib.Core.Bool.{Bool, true, false, cond}
 use native.Mathlib.Nat.{not-suc-le-zero}
 use native.Mathlib.Omega.{arith}
 use lib.Dec.{ltb, leb}
 use lib.IntN.{ℤ, pos, negsuc, _-ℤ_}
 use lib.Signed.{ltZ, mag}
 use borrow.Author.Tests.{lt-ltb, le-ltb, ltb-true, ltb-false, leb-true}
-use Rattle.words.specs.Fields.{both, either, pick, pickℤ, complement, int, extended, holdsSigned}
+use Rattle.words.specs.Fields.{both, either, complement, int, extended, holdsSigned}
 use Rattle.words.proofs.Table.{both-left}
 
 pub sub-below : (n h : ℕ) → n < h → pos n -ℤ pos h ≡ negsuc (h - suc n)
@@ -29,14 +29,14 @@ int-high half n l u h =
 pub complement-int : (n : ℕ) → n < 2 ^ 32 → complement (int n) ≡ n
 complement-int n h = go (ltb n (2 ^ 31)) refl
   where
-    go : (t : Bool) → ltb n (2 ^ 31) ≡ t → complement (pickℤ t (pos n) (negsuc (2 ^ 32 - suc n))) ≡ n
+    go : (t : Bool) → ltb n (2 ^ 31) ≡ t → complement (cond t (pos n) (negsuc (2 ^ 32 - suc n))) ≡ n
     go true e = rw e
     go false e = let l : 2 ^ 31 ≤ n = ltb-false _ _ e in rw (lt-ltb (2 ^ 32 - suc n) (2 ^ 31) (omega arith)) (omega arith)
 
 pub extended-lt : (half n : ℕ) → half + half ≤ 2 ^ 32 → n < half + half → extended half n < 2 ^ 32
 extended-lt half n h l = go (ltb n half) refl
   where
-    go : (t : Bool) → ltb n half ≡ t → pick t n (2 ^ 32 - (half + half) + n) < 2 ^ 32
+    go : (t : Bool) → ltb n half ≡ t → cond t n (2 ^ 32 - (half + half) + n) < 2 ^ 32
     go true e = omega arith
     go false e = omega arith
 
@@ -52,12 +52,12 @@ held-not-top half n h ok e = go (ltb n half) refl ok
 pub int-complement : (half : ℕ) (z : ℤ) → half < 2 ^ 31 → holdsSigned half (complement z) ≡ true → int (complement z) ≡ z
 int-complement half (pos n) h ok = go (ltb n (2 ^ 31)) refl ok
   where
-    go : (t : Bool) → ltb n (2 ^ 31) ≡ t → holdsSigned half (pick t n (2 ^ 31)) ≡ true → int (pick t n (2 ^ 31)) ≡ pos n
+    go : (t : Bool) → ltb n (2 ^ 31) ≡ t → holdsSigned half (cond t n (2 ^ 31)) ≡ true → int (cond t n (2 ^ 31)) ≡ pos n
     go true e k = rw e
     go false e k = absurd (held-not-top half (2 ^ 31) h k refl)
 int-complement half (negsuc n) h ok = go (ltb n (2 ^ 31)) refl ok
   where
-    go : (t : Bool) → ltb n (2 ^ 31) ≡ t → holdsSigned half (pick t (2 ^ 32 - suc n) (2 ^ 31)) ≡ true → int (pick t (2 ^ 32 - suc n) (2 ^ 31)) ≡ negsuc n
+    go : (t : Bool) → ltb n (2 ^ 31) ≡ t → holdsSigned half (cond t (2 ^ 32 - suc n) (2 ^ 31)) ≡ true → int (cond t (2 ^ 32 - suc n) (2 ^ 31)) ≡ negsuc n
     go true e k =
         let l : n < 2 ^ 31 = ltb-true _ _ e in
         rw (le-ltb (2 ^ 32 - suc n) (2 ^ 31) (omega arith)) (ap negsuc (omega arith))

@@ -2,7 +2,7 @@
 -- Assumes nothing.
 use Prim.Native.Nat.{ℕ, zero, suc, _+_, _*_, _/_, _^_, _≤_, _<_}
 use mathlib.Core.Path.{_≡_, refl, sym, _∙_}
-use mathlib.Core.Bool.{Bool, true, false}
+use mathlib.Core.Bool.{Bool, true, false, cond}
 use mathlib.Core.List.{List, [], _∷_}
 use mathlib.Core.Logic.{_⊎_, inl, inr, ⊎-elim}
 use native.Mathlib.Nat.{le-of-suc-le-suc, not-suc-le-zero}
@@ -14,7 +14,7 @@ use borrow.Author.Tests.{leb-true, ltb-true, eqb-true, ne-eqb}
 use Rattle.words.specs.declared.field.Field.{Field}
 use Rattle.words.specs.declared.field.Field.the-variants.{Bits, Only, Signed}
 use Rattle.words.specs.Fields.{both, either, total}
-use Rattle.words.specs.Table.{Row, row, Make, rows, Found, none, some, pickFound, find, rowOf}
+use Rattle.words.specs.Table.{Row, row, Make, rows, Found, none, some, find, rowOf}
 use Rattle.words.specs.Words.{byTopBits, command}
 
 pub both-left : (a b : Bool) → both a b ≡ true → a ≡ true
@@ -109,7 +109,7 @@ unfolding allProper
 sound-in [] n p = tt
 sound-in (row code fs make ∷ rs) n p = go (eqb n code) refl (sound-in rs n (both-right _ _ p))
   where
-    go : (t : Bool) → eqb n code ≡ t → Sound n (find n rs) → Sound n (pickFound t (some (row code fs make)) (find n rs))
+    go : (t : Bool) → eqb n code ≡ t → Sound n (find n rs) → Sound n (cond t (some (row code fs make)) (find n rs))
     go true e rest = rw (eqb-true n code e) (proper-row code fs make (both-left _ _ p))
     go false e rest = rest
 

@@ -3,7 +3,7 @@
 -- high bits down and with no gap. Document 01, row 12: which numbers have no meaning. A list of numbers here has a signed field as
 -- include/jokulvisp.h passes it, as 32 bits in two's complement.
 use Prim.Native.Nat.{ℕ, suc, _+_, _-_, _*_, _/_, _%_, _^_}
-use mathlib.Core.Bool.{Bool, true, false}
+use mathlib.Core.Bool.{Bool, true, false, cond}
 use mathlib.Core.List.{List, [], _∷_}
 use lib.Dec.{ltb, leb}
 use lib.IntN.{ℤ, pos, negsuc}
@@ -20,14 +20,6 @@ unfoldable pub either : Bool → Bool → Bool
 either true b = true
 either false b = b
 
-abbrev pub pick : Bool → ℕ → ℕ → ℕ
-pick true a b = a
-pick false a b = b
-
-abbrev pub pickℤ : Bool → ℤ → ℤ → ℤ
-pickℤ true a b = a
-pickℤ false a b = b
-
 -- ROW 12. A test function is at most 7, a stencil action and a blend factor at most 5, a primitive 1 to 9, a format one of
 -- 0-7, 9, 10, 11, 14-17, frac at most 4, a scissor's width or height at most 2,048.
 abbrev pub meant : Meaning → ℕ → Bool
@@ -43,16 +35,16 @@ meant ScissorSide n = leb n 2048
 
 -- the number z as 32 bits in two's complement; where they do not hold it, 2 ^ 31, which no field holds
 abbrev pub complement : ℤ → ℕ
-complement (pos n) = pick (ltb n (2 ^ 31)) n (2 ^ 31)
-complement (negsuc n) = pick (ltb n (2 ^ 31)) (2 ^ 32 - suc n) (2 ^ 31)
+complement (pos n) = cond (ltb n (2 ^ 31)) n (2 ^ 31)
+complement (negsuc n) = cond (ltb n (2 ^ 31)) (2 ^ 32 - suc n) (2 ^ 31)
 
 -- the number that 32 bits in two's complement stand for
 abbrev pub int : ℕ → ℤ
-int n = pickℤ (ltb n (2 ^ 31)) (pos n) (negsuc (2 ^ 32 - suc n))
+int n = cond (ltb n (2 ^ 31)) (pos n) (negsuc (2 ^ 32 - suc n))
 
 -- the bits n of a signed field as 32 bits: from half up the number is negative, and the bits above the field are set
 abbrev pub extended : ℕ → ℕ → ℕ
-extended half n = pick (ltb n half) n (2 ^ 32 - (half + half) + n)
+extended half n = cond (ltb n half) n (2 ^ 32 - (half + half) + n)
 
 unfoldable pub holdsSigned : ℕ → ℕ → Bool
 holdsSigned half n = either (ltb n half) (both (leb (2 ^ 32 - half) n) (ltb n (2 ^ 32)))

@@ -2,7 +2,7 @@
 -- the guide's sections 4.4 to 4.51. A command's number is its top byte; VERTEX2F and VERTEX2II, which have two top bits only,
 -- are 0x40 and 0x80.
 use Prim.Native.Nat.{ℕ}
-use mathlib.Core.Bool.{Bool, true, false}
+use mathlib.Core.Bool.{cond}
 use mathlib.Core.List.{List, [], _∷_}
 use lib.Dec.{eqb}
 use lib.IntN.{ℤ}
@@ -22,6 +22,7 @@ Make (Bits k ∷ fs) = ℕ → Make fs
 Make (Only k m ∷ fs) = ℕ → Make fs
 Make (Signed k ∷ fs) = ℤ → Make fs
 
+-- a command's number, its fields, and what makes it of them
 pub data Row : Type 0 where
   row : ℕ → (fs : List Field) → Make fs → Row
 
@@ -30,6 +31,7 @@ pub data Row : Type 0 where
 abbrev pub colours : {A : Type 0} → (ℕ → ℕ → ℕ → A) → ℕ → ℕ → ℕ → A
 colours f high middle low = f high middle low
 
+-- `Bits k` is a field of k bits, `Only k m` one whose numbers name an m, `Signed k` one in two's complement.
 abbrev pub rows : List Row
 rows =
     row 0x40 (Signed 15 ∷ Signed 15 ∷ []) v.Vertex2f ∷
@@ -86,13 +88,9 @@ pub data Found : Type 0 where
   none : Found
   some : Row → Found
 
-abbrev pub pickFound : Bool → Found → Found → Found
-pickFound true a b = a
-pickFound false a b = b
-
 abbrev pub find : ℕ → List Row → Found
 find n [] = none
-find n (row code fs make ∷ rs) = pickFound (eqb n code) (some (row code fs make)) (find n rs)
+find n (row code fs make ∷ rs) = cond (eqb n code) (some (row code fs make)) (find n rs)
 
 -- the row of a command's number
 abbrev pub rowOf : ℕ → Found
@@ -115,6 +113,7 @@ spelling code ns = record { 0 = code; 1 = getD ns 0 0; 2 = getD ns 1 0; 3 = getD
 abbrev pub numbers : Spelling → List ℕ
 numbers s = s .1 ∷ s .2 ∷ s .3 ∷ s .4 ∷ s .5 ∷ []
 
+-- the spelling of a command
 abbrev pub spelled : Word → Spelling
 spelled (v.Vertex2f x y) = spelling 0x40 (complement x ∷ complement y ∷ [])
 spelled (v.Vertex2ii x y handle cell) = spelling 0x80 (x ∷ y ∷ handle ∷ cell ∷ [])

@@ -191,7 +191,7 @@ pub fn width_of(field: Field) -> u32
 fn is_held_signed(half: u32, n: u32) -> bool
     ensures { λ r. ⌜ r ≡ holdsSigned half n ⌝ }
 {
-    either(n < half, 4294967295 - half < n)
+    either(n < half, 0xFFFFFFFF - half < n)
 }
 
 // Whether the field's bits hold the number, and it has a meaning there.

@@ -44,7 +44,7 @@ fn read_bitmap_layout(w: u32) -> Read
         is_meant(Meaning::Format, format),
         Word::BitmapLayout {
             format: format,
-            linestride: (w >> 9) % 1024,
+            linestride: (w >> 9) % 0x400,
             height: w % 512,
         },
     )
@@ -98,8 +98,8 @@ fn read_stencil_op(w: u32) -> Read
 fn read_scissor_size(w: u32) -> Read
     ensures { λ r. ⌜ r ≡ readAs (rowOf 0x1C) w ⌝ }
 {
-    let width = (w >> 12) % 4096;
-    let height = w % 4096;
+    let width = (w >> 12) % 0x1000;
+    let height = w % 0x1000;
     checked(
         both(
             is_meant(Meaning::ScissorSide, width),
@@ -139,7 +139,7 @@ fn read_by_byte(w: u32) -> Read
 {
     match w >> 24 {
         0x00 => Read::Command(Word::Display),
-        0x01 => Read::Command(Word::BitmapSource { addr: w % 4194304 }),
+        0x01 => Read::Command(Word::BitmapSource { addr: w % 0x400000 }),
         0x02 => Read::Command(Word::ClearColorRgb {
             red: (w >> 16) % 256,
             green: (w >> 8) % 256,
@@ -168,8 +168,8 @@ fn read_by_byte(w: u32) -> Read
         0x0A => read_stencil_func(w),
         0x0B => read_blend_func(w),
         0x0C => read_stencil_op(w),
-        0x0D => Read::Command(Word::PointSize { size: w % 8192 }),
-        0x0E => Read::Command(Word::LineWidth { width: w % 4096 }),
+        0x0D => Read::Command(Word::PointSize { size: w % 0x2000 }),
+        0x0E => Read::Command(Word::LineWidth { width: w % 0x1000 }),
         0x0F => Read::Command(Word::ClearColorA { alpha: w % 256 }),
         0x10 => Read::Command(Word::ColorA { alpha: w % 256 }),
         0x11 => Read::Command(Word::ClearStencil { s: w % 256 }),
@@ -177,30 +177,30 @@ fn read_by_byte(w: u32) -> Read
         0x13 => Read::Command(Word::StencilMask { mask: w % 256 }),
         0x14 => Read::Command(Word::TagMask { mask: w % 2 }),
         0x15 => Read::Command(Word::BitmapTransformA {
-            a: sign(w % 131072, 65536),
+            a: sign(w % 0x20000, 0x10000),
         }),
         0x16 => Read::Command(Word::BitmapTransformB {
-            b: sign(w % 131072, 65536),
+            b: sign(w % 0x20000, 0x10000),
         }),
         0x17 => Read::Command(Word::BitmapTransformC {
-            c: sign(w % 16777216, 8388608),
+            c: sign(w % 0x1000000, 0x800000),
         }),
         0x18 => Read::Command(Word::BitmapTransformD {
-            d: sign(w % 131072, 65536),
+            d: sign(w % 0x20000, 0x10000),
         }),
         0x19 => Read::Command(Word::BitmapTransformE {
-            e: sign(w % 131072, 65536),
+            e: sign(w % 0x20000, 0x10000),
         }),
         0x1A => Read::Command(Word::BitmapTransformF {
-            f: sign(w % 16777216, 8388608),
+            f: sign(w % 0x1000000, 0x800000),
         }),
         0x1B => Read::Command(Word::ScissorXy {
-            x: (w >> 11) % 2048,
-            y: w % 2048,
+            x: (w >> 11) % 0x800,
+            y: w % 0x800,
         }),
         0x1C => read_scissor_size(w),
-        0x1D => Read::Command(Word::Call { dest: w % 65536 }),
-        0x1E => Read::Command(Word::Jump { dest: w % 65536 }),
+        0x1D => Read::Command(Word::Call { dest: w % 0x10000 }),
+        0x1E => Read::Command(Word::Jump { dest: w % 0x10000 }),
         0x1F => read_begin(w),
         0x20 => Read::Command(Word::ColorMask {
             r: (w >> 3) % 2,
@@ -227,12 +227,12 @@ fn read_by_byte(w: u32) -> Read
             width: (w >> 2) % 4,
             height: w % 4,
         }),
-        0x2A => Read::Command(Word::PaletteSource { addr: w % 4194304 }),
+        0x2A => Read::Command(Word::PaletteSource { addr: w % 0x400000 }),
         0x2B => Read::Command(Word::VertexTranslateX {
-            x: sign(w % 131072, 65536),
+            x: sign(w % 0x20000, 0x10000),
         }),
         0x2C => Read::Command(Word::VertexTranslateY {
-            y: sign(w % 131072, 65536),
+            y: sign(w % 0x20000, 0x10000),
         }),
         0x2D => Read::Command(Word::Nop),
         _ => Read::NoCommand,
@@ -245,8 +245,8 @@ pub fn read_word(w: u32) -> Read
     match w >> 30 {
         0 => read_by_byte(w),
         1 => Read::Command(Word::Vertex2f {
-            x: sign((w >> 15) % 32768, 16384),
-            y: sign(w % 32768, 16384),
+            x: sign((w >> 15) % 0x8000, 0x4000),
+            y: sign(w % 0x8000, 0x4000),
         }),
         2 => Read::Command(Word::Vertex2ii {
             x: (w >> 21) % 512,

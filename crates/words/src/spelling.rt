@@ -12,7 +12,7 @@ fn complement(x: i32) -> u32
     ensures { λ r. ⌜ r ≡ complement x ⌝ }
 {
     if x < 0 {
-        return 4294967295 - (-1 - x) as u32;
+        return 0xFFFFFFFF - (-1 - x) as u32;
     }
     x as u32
 }

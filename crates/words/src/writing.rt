@@ -76,7 +76,7 @@ fn encode(s: Spelling, a: Field, b: Field, c: Field, d: Field, e: Field) -> Writ
     ensures { λ r. ⌜ r ≡ encoded (five a b c d e) s ⌝ }
 {
     if is_fit(s, a, b, c, d, e) {
-        let top = s.0 * 16777216;
+        let top = s.0 * 0x1000000;
         let bits = top + pack_all(s, a, b, c, d, e);
         return Written::Bits(bits);
     }
