@@ -40,10 +40,11 @@ fn tell(number: u32, s: Spelling) -> JvWord
 pub extern "C" fn jv_read_word(bits: u32) -> JvWord
     ensures { λ r. ⌜ ReadAnswer bits r ⌝ }
 {
+    let nothing = Spelling(0, 0, 0, 0, 0, 0);
     match words::read_word(bits) {
         Read::Command(word) => tell(0, words::spell(word)),
-        Read::NoCommand => tell(11, Spelling(0, 0, 0, 0, 0, 0)),
-        Read::NoMeaning => tell(12, Spelling(0, 0, 0, 0, 0, 0)),
+        Read::NoCommand => tell(11, nothing),
+        Read::NoMeaning => tell(12, nothing),
     }
 }
 

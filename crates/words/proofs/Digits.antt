@@ -13,7 +13,8 @@ use borrow.Author.Tests.{ltb-true, ltb-false, lt-ltb, le-ltb, le-leb, leb-true}
 use Rattle.words.specs.declared.field.Field.{Field}
 use Rattle.words.specs.declared.field.Field.the-variants.{Bits, Only, Signed}
 use Rattle.words.specs.Fields.{both, either, extended, holdsSigned, width, value, means, holds, total, above, values, allMean, fit, join}
-use Rattle.words.proofs.Table.{signs, allSigns, both-left, both-right, both-of, either-cases}
+use Rattle.words.proofs.Table.{signs, allSigns}
+use Rattle.words.proofs.Tests.{both-left, both-right, both-of, either-cases}
 
 -- a digit below A before a number below B
 below : (A B a b : ℕ) → a < A → b < B → a * B + b < A * B

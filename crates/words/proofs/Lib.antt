@@ -5,3 +5,4 @@ pub mod Round
 pub mod Rows
 pub mod Signs
 pub mod Table
+pub mod Tests

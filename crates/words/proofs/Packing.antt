@@ -1,7 +1,7 @@
 -- The code's way to keep and pack a row's fields gives what the table says.
 -- Assumes nothing.
 use Prim.Native.Nat.{ℕ, zero, suc, _+_, _%_, _≤_}
-use mathlib.Core.Path.{_≡_, refl, ap, _∙_, subst}
+use mathlib.Core.Path.{_≡_, refl, ap, subst}
 use mathlib.Core.List.{List, [], _∷_}
 use native.Mathlib.Omega.{arith}
 use lib.ListN.{length}
@@ -10,12 +10,11 @@ use Rattle.words.specs.declared.field.Field.the-variants.{Bits}
 use Rattle.words.specs.declared.field.Layout.{Layout}
 use Rattle.words.specs.declared.field.Layout.the-variants.{NoCommand, None, One, Two, Three, Four, Five}
 use Rattle.words.specs.declared.spelling.Spelling.{Spelling}
-use Rattle.words.specs.declared.writing.Written.{Written}
 use Rattle.words.specs.declared.writing.Written.the-variants as o
 use Rattle.words.specs.Fields.{width, total, fit, join}
 use Rattle.words.specs.Layout.{laid, layoutOf}
 use Rattle.words.specs.Table.{row, Found, none, some, rowOf, numbers}
-use Rattle.words.specs.Words.{encoded, writeAs, writeSpelling}
+use Rattle.words.specs.Words.{encoded, writeSpelling}
 use Rattle.words.proofs.Table.{Sound, sound}
 
 -- FIELDS WITHOUT BITS after a command's own change nothing.
@@ -49,53 +48,36 @@ encoded-padded fs k s h = rw (fit-padded fs k (numbers s) h, join-padded fs k (n
 
 -- A ROW AS THE CODE KEEPS IT.
 
-abbrev writeLaid : Layout → Spelling → Written
-writeLaid NoCommand s = o.NoCommand
-writeLaid None s = encoded [] s
-writeLaid (One a) s = encoded (a ∷ []) s
-writeLaid (Two a b) s = encoded (a ∷ b ∷ []) s
-writeLaid (Three a b c) s = encoded (a ∷ b ∷ c ∷ []) s
-writeLaid (Four a b c d) s = encoded (a ∷ b ∷ c ∷ d ∷ []) s
-writeLaid (Five a b c d e) s = encoded (a ∷ b ∷ c ∷ d ∷ e ∷ []) s
+-- A where there is no command, P of the fields where there is one
+abbrev pub OfLayout : Type 0 → (List Field → Type 0) → Layout → Type 0
+OfLayout A P NoCommand = A
+OfLayout A P None = P []
+OfLayout A P (One a) = P (a ∷ [])
+OfLayout A P (Two a b) = P (a ∷ b ∷ [])
+OfLayout A P (Three a b c) = P (a ∷ b ∷ c ∷ [])
+OfLayout A P (Four a b c d) = P (a ∷ b ∷ c ∷ d ∷ [])
+OfLayout A P (Five a b c d e) = P (a ∷ b ∷ c ∷ d ∷ e ∷ [])
 
-laid-writes : (fs : List Field) (s : Spelling) → length fs ≤ 5 → encoded fs s ≡ writeLaid (laid fs) s
-laid-writes [] s h = refl
-laid-writes (a ∷ []) s h = refl
-laid-writes (a ∷ b ∷ []) s h = refl
-laid-writes (a ∷ b ∷ c ∷ []) s h = refl
-laid-writes (a ∷ b ∷ c ∷ d ∷ []) s h = refl
-laid-writes (a ∷ b ∷ c ∷ d ∷ e ∷ []) s h = refl
-laid-writes (a ∷ b ∷ c ∷ d ∷ e ∷ f ∷ fs) s h = absurd (omega arith)
+of-laid : (A : Type 0) (P : List Field → Type 0) (fs : List Field) → length fs ≤ 5 → P fs → OfLayout A P (laid fs)
+of-laid A P [] l h = h
+of-laid A P (a ∷ []) l h = h
+of-laid A P (a ∷ b ∷ []) l h = h
+of-laid A P (a ∷ b ∷ c ∷ []) l h = h
+of-laid A P (a ∷ b ∷ c ∷ d ∷ []) l h = h
+of-laid A P (a ∷ b ∷ c ∷ d ∷ e ∷ []) l h = h
+of-laid A P (a ∷ b ∷ c ∷ d ∷ e ∷ f ∷ fs) l h = absurd (omega arith)
 
-pub written-as : (s : Spelling) (l : Layout) → layoutOf (rowOf (s .0)) ≡ l → writeSpelling s ≡ writeLaid l s
+-- what a spelling's layout says of writing it
+pub record Writes (s : Spelling) (fs : List Field) : Type 0 where
+  pub low : s .0 ≤ 128
+  pub narrow : total fs ≤ 30
+  pub writes : writeSpelling s ≡ encoded fs s
+
+pub writing : (s : Spelling) {l : Layout} → layoutOf (rowOf (s .0)) ≡ l → OfLayout (writeSpelling s ≡ o.NoCommand) (Writes s) l
 unfolding writeSpelling
-written-as s l e = go (rowOf (s .0)) (sound (s .0)) ∙ ap (λ (x : Layout). writeLaid x s) e
+writing s e = subst (OfLayout (writeSpelling s ≡ o.NoCommand) (Writes s)) e (go (rowOf (s .0)) refl (sound (s .0)))
   where
-    go : (f : Found) → Sound (s .0) f → writeAs f s ≡ writeLaid (layoutOf f) s
-    go none h = refl
-    go (some (row code fs make)) h = laid-writes fs s (h .few)
-
-abbrev Fine : ℕ → Layout → Type 0
-Fine n NoCommand = Unit {0}
-Fine n None = n ≤ 128
-Fine n (One a) = (n ≤ 128) × (total (a ∷ []) ≤ 30)
-Fine n (Two a b) = (n ≤ 128) × (total (a ∷ b ∷ []) ≤ 30)
-Fine n (Three a b c) = (n ≤ 128) × (total (a ∷ b ∷ c ∷ []) ≤ 30)
-Fine n (Four a b c d) = (n ≤ 128) × (total (a ∷ b ∷ c ∷ d ∷ []) ≤ 30)
-Fine n (Five a b c d e) = (n ≤ 128) × (total (a ∷ b ∷ c ∷ d ∷ e ∷ []) ≤ 30)
-
-laid-fine : (n : ℕ) (fs : List Field) → n ≤ 128 → total fs ≤ 30 → Fine n (laid fs)
-laid-fine n [] h l = h
-laid-fine n (a ∷ []) h l = (h, l)
-laid-fine n (a ∷ b ∷ []) h l = (h, l)
-laid-fine n (a ∷ b ∷ c ∷ []) h l = (h, l)
-laid-fine n (a ∷ b ∷ c ∷ d ∷ []) h l = (h, l)
-laid-fine n (a ∷ b ∷ c ∷ d ∷ e ∷ []) h l = (h, l)
-laid-fine n (a ∷ b ∷ c ∷ d ∷ e ∷ f ∷ fs) h l = tt
-
-pub fine : (n : ℕ) {l : Layout} → layoutOf (rowOf n) ≡ l → Fine n l
-fine n e = subst (Fine n) e (go (rowOf n) (sound n))
-  where
-    go : (f : Found) → Sound n f → Fine n (layoutOf f)
-    go none h = tt
-    go (some (row code fs make)) h = laid-fine n fs (h .low) (h .narrow)
+    go : (f : Found) → rowOf (s .0) ≡ f → Sound (s .0) f → OfLayout (writeSpelling s ≡ o.NoCommand) (Writes s) (layoutOf f)
+    go none q h = rw q
+    go (some (row code fs make)) q h =
+        of-laid (writeSpelling s ≡ o.NoCommand) (Writes s) fs (h .few) (record { low = h .low; narrow = h .narrow; writes = rw q })

@@ -2,15 +2,15 @@
 -- back. Assumes nothing.
 use Prim.Native.Nat.{ℕ, zero, suc, _+_, _*_, _-_, _/_, _%_, _^_, _<_, _≤_}
 use mathlib.Core.Path.{_≡_, refl, sym, ap, _∙_}
-use mathlib.Core.Bool.{Bool, true, false, cond}
+use mathlib.Core.Bool.{Bool, true, false}
 use mathlib.Core.List.{List, [], _∷_}
 use mathlib.Core.Logic.{⊎-elim}
 use native.Mathlib.Omega.{arith}
-use lib.Dec.{eqb, lit<, lit≤}
+use lib.Dec.{lit<, lit≤}
 use lib.IntN.{ℤ}
 use lib.ListN.{length, getD}
 use lib.Pow.{pow-add}
-use borrow.Author.Tests.{ltb-true, eqb-true}
+use borrow.Author.Tests.{ltb-true}
 use Rattle.words.specs.declared.field.Field.{Field}
 use Rattle.words.specs.declared.field.Field.the-variants.{Bits, Signed}
 use Rattle.words.specs.declared.reading.Read.the-variants as r
@@ -19,11 +19,12 @@ use Rattle.words.specs.declared.word.Word.{Word}
 use Rattle.words.specs.declared.word.Word.the-variants as v
 use Rattle.words.specs.declared.writing.Written.the-variants as o
 use Rattle.words.specs.Fields.{both, holds, complement, int, extended, total, values, fit, join}
-use Rattle.words.specs.Table.{Row, row, Make, rows, Found, none, some, find, rowOf, apply, spelling, numbers, spelled}
+use Rattle.words.specs.Table.{Row, row, Make, rows, Found, none, some, rowOf, apply, spelling, numbers, spelled}
 use Rattle.words.specs.Words.{command, checked, readWord, written, encoded}
 use Rattle.words.proofs.Digits.{front, join-lt, values-join, fit-means}
 use Rattle.words.proofs.Signs.{complement-int, int-complement, extended-lt}
-use Rattle.words.proofs.Table.{Proper, command-of, both-left, both-right}
+use Rattle.words.proofs.Table.{Proper, _⨾_, Each, OfFound, of-found, command-of}
+use Rattle.words.proofs.Tests.{both-left, both-right}
 
 -- What a result tells.
 
@@ -104,19 +105,11 @@ right v.Nop = λ ok. refl
 
 -- FROM A ROW TO ITS COMMAND: the command that a row makes is spelled with the row's number and those numbers.
 
-abbrev Good : Row → Type 0
-Good (row code fs make) = (w : ℕ) → spelled (apply fs make (values fs w)) ≡ spelling code (values fs w)
+abbrev pub Made : ℕ → Row → Type 0
+Made n (row code fs make) = (w : ℕ) → spelled (apply fs make (values fs w)) ≡ spelling n (values fs w)
 
-infixr 4 _⨾_
-data Pair (A B : Type 0) : Type 0 where
-  _⨾_ : A → B → Pair A B
-
-abbrev All : List Row → Type 0
-All [] = Unit {0}
-All (x ∷ xs) = Pair (Good x) (All xs)
-
-good : All rows
-good =
+each-made : Each Made rows
+each-made =
     (λ w. rw (signed-there 15 (w / 2 ^ 15 % 2 ^ 15) (omega arith) (lit≤ tt), signed-there 15 (w % 2 ^ 15) (omega arith) (lit≤ tt))) ⨾
     (λ w. refl) ⨾ (λ w. refl) ⨾ (λ w. refl) ⨾ (λ w. refl) ⨾ (λ w. refl) ⨾ (λ w. refl) ⨾
     (λ w. refl) ⨾ (λ w. refl) ⨾ (λ w. refl) ⨾ (λ w. refl) ⨾ (λ w. refl) ⨾ (λ w. refl) ⨾
@@ -136,19 +129,10 @@ good =
     (λ w. refl) ⨾ tt
 
 abbrev pub Makes : ℕ → Found → Type 0
-Makes n none = Unit {0}
-Makes n (some (row code fs make)) = (w : ℕ) → spelled (apply fs make (values fs w)) ≡ spelling n (values fs w)
-
-makes-in : (rs : List Row) (n : ℕ) → All rs → Makes n (find n rs)
-makes-in [] n g = tt
-makes-in (row code fs make ∷ rs) n (g ⨾ gs) = go (eqb n code) refl (makes-in rs n gs)
-  where
-    go : (t : Bool) → eqb n code ≡ t → Makes n (find n rs) → Makes n (cond t (some (row code fs make)) (find n rs))
-    go true e rest = rw (eqb-true n code e) g
-    go false e rest = rest
+Makes n = OfFound (Made n)
 
 pub makes : (n : ℕ) → Makes n (rowOf n)
-makes n = makes-in rows n good
+makes n = of-found Made rows n each-made
 
 -- A SPELLING has five numbers, and those past a command's fields are 0.
 

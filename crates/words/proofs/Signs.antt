@@ -10,7 +10,7 @@ use lib.IntN.{ℤ, pos, negsuc, _-ℤ_}
 use lib.Signed.{ltZ, mag}
 use borrow.Author.Tests.{lt-ltb, le-ltb, ltb-true, ltb-false, leb-true}
 use Rattle.words.specs.Fields.{both, either, complement, int, extended, holdsSigned}
-use Rattle.words.proofs.Table.{both-left}
+use Rattle.words.proofs.Tests.{both-left}
 
 pub sub-below : (n h : ℕ) → n < h → pos n -ℤ pos h ≡ negsuc (h - suc n)
 sub-below n zero l = absurd (not-suc-le-zero l)
@@ -72,7 +72,7 @@ pub from-zero : (z : ℤ) → ltZ z (pos 0) ≡ false → z ≡ pos (mag z)
 from-zero (pos n) h = refl
 from-zero (negsuc n) h = let z : _≡_ {A = ℕ} 0 1 = cc in absurd (omega arith)
 
-pub complement-negative : (z : ℤ) → ltZ z (pos 0) ≡ true → mag z < 2 ^ 31 → complement z ≡ 4294967295 - mag z
+pub complement-negative : (z : ℤ) → ltZ z (pos 0) ≡ true → mag z < 2 ^ 31 → complement z ≡ 0xFFFFFFFF - mag z
 complement-negative (pos n) s h = let l : n < 0 = ltb-true n 0 s in absurd (omega arith)
 complement-negative (negsuc n) s h = rw (lt-ltb n (2 ^ 31) h) (omega arith)
 

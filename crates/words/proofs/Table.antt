@@ -16,25 +16,7 @@ use Rattle.words.specs.declared.field.Field.the-variants.{Bits, Only, Si
 use Rattle.words.specs.Fields.{both, either, total}
 use Rattle.words.specs.Table.{Row, row, Make, rows, Found, none, some, find, rowOf}
 use Rattle.words.specs.Words.{byTopBits, command}
-
-pub both-left : (a b : Bool) → both a b ≡ true → a ≡ true
-unfolding both
-both-left true b h = refl
-both-left false b h = h
-
-pub both-right : (a b : Bool) → both a b ≡ true → b ≡ true
-unfolding both
-both-right true b h = h
-both-right false b h = cc
-
-pub both-of : {a b : Bool} → a ≡ true → b ≡ true → both a b ≡ true
-unfolding both
-both-of h k = rw h k
-
-pub both-true : (b : Bool) → both b true ≡ b
-unfolding both
-both-true true = refl
-both-true false = refl
+use Rattle.words.proofs.Tests.{both-left, both-right, either-cases}
 
 -- A top byte below 46 leaves 24 bits, the two top bits of a vertex 30; no command has more than five fields.
 topped : ℕ → ℕ → Bool
@@ -60,11 +42,6 @@ allProper (r ∷ rs) = both (proper r) (allProper rs)
 rows-proper : allProper rows ≡ true
 unfolding allProper proper topped both either
 rows-proper = refl
-
-pub either-cases : (a b : Bool) → either a b ≡ true → (a ≡ true) ⊎ (b ≡ true)
-unfolding either
-either-cases true b h = inl refl
-either-cases false b h = inr h
 
 -- what `topped` tests
 top-cases : (code bits : ℕ) → topped code bits ≡ true → ((code < 46) × (bits ≤ 24)) ⊎ (((code ≡ 0x40) ⊎ (code ≡ 0x80)) × (bits ≤ 30))
@@ -99,22 +76,42 @@ proper-row code fs make p = record {
     cases : ((code < 46) × (total fs ≤ 24)) ⊎ (((code ≡ 0x40) ⊎ (code ≡ 0x80)) × (total fs ≤ 30))
     cases = top-cases code (total fs) (both-right _ _ p)
 
--- the row that is found for n
-abbrev pub Sound : ℕ → Found → Type 0
-Sound n none = Unit {0}
-Sound n (some (row code fs make)) = Proper n fs
+-- THE FOUND ROW. What holds of each row holds of the one that is found, with the number that it is found for.
 
-sound-in : (rs : List Row) (n : ℕ) → allProper rs ≡ true → Sound n (find n rs)
-unfolding allProper
-sound-in [] n p = tt
-sound-in (row code fs make ∷ rs) n p = go (eqb n code) refl (sound-in rs n (both-right _ _ p))
+infixr 4 _⨾_
+pub data Pair (A B : Type 0) : Type 0 where
+  _⨾_ : A → B → Pair A B
+
+-- P holds of each row, with its own number
+abbrev pub Each : (ℕ → Row → Type 0) → List Row → Type 0
+Each P [] = Unit {0}
+Each P (row code fs make ∷ rs) = Pair (P code (row code fs make)) (Each P rs)
+
+abbrev pub OfFound : (Row → Type 0) → Found → Type 0
+OfFound P none = Unit {0}
+OfFound P (some r) = P r
+
+pub of-found : (P : ℕ → Row → Type 0) (rs : List Row) (n : ℕ) → Each P rs → OfFound (P n) (find n rs)
+of-found P [] n e = tt
+of-found P (row code fs make ∷ rs) n (h ⨾ hs) = go (eqb n code) refl (of-found P rs n hs)
   where
-    go : (t : Bool) → eqb n code ≡ t → Sound n (find n rs) → Sound n (cond t (some (row code fs make)) (find n rs))
-    go true e rest = rw (eqb-true n code e) (proper-row code fs make (both-left _ _ p))
+    go : (t : Bool) → eqb n code ≡ t → OfFound (P n) (find n rs) → OfFound (P n) (cond t (some (row code fs make)) (find n rs))
+    go true e rest = rw (eqb-true n code e) h
     go false e rest = rest
 
+abbrev pub ProperRow : ℕ → Row → Type 0
+ProperRow n (row code fs make) = Proper n fs
+
+each-proper : (rs : List Row) → allProper rs ≡ true → Each ProperRow rs
+unfolding allProper
+each-proper [] p = tt
+each-proper (row code fs make ∷ rs) p = proper-row code fs make (both-left _ _ p) ⨾ each-proper rs (both-right _ _ p)
+
+abbrev pub Sound : ℕ → Found → Type 0
+Sound n = OfFound (ProperRow n)
+
 pub sound : (n : ℕ) → Sound n (rowOf n)
-sound n = sound-in rows n rows-proper
+sound n = of-found ProperRow rows n (each-proper rows rows-proper)
 
 no-code : (n code bits : ℕ) → topped code bits ≡ true → 46 ≤ n → (n ≡ 0x40 → ⊥) → (n ≡ 0x80 → ⊥) → n ≡ code → ⊥
 no-code n code bits t l h k e =

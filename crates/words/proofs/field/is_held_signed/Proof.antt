@@ -5,7 +5,7 @@ use lib.Dec.{ltb, leb}
 use borrow.Author.Needs.{needs}
 use borrow.Author.Tests.{lt-ltb}
 use Rattle.words.specs.Fields.{both, holdsSigned}
-use Rattle.words.proofs.Table.{both-true}
+use Rattle.words.proofs.Tests.{both-true}
 use Rattle.words.proofs.field.is_held_signed.Statement.{statement}
 use Rattle.words.proofs.field.is_held_signed.Tie as tie
 
@@ -16,9 +16,9 @@ either-requires : tie.Need-either-requires
 either-requires c κs = search needs
 
 -- the upper numbers, as the code tests them
-top : (half n : ℕ) → half < 2 ^ 32 → n < 2 ^ 32 → ltb (4294967295 - half) n ≡ both (leb (2 ^ 32 - half) n) (ltb n (2 ^ 32))
+top : (half n : ℕ) → half < 2 ^ 32 → n < 2 ^ 32 → ltb (0xFFFFFFFF - half) n ≡ both (leb (2 ^ 32 - half) n) (ltb n (2 ^ 32))
 top half n h l =
-    let e : suc (4294967295 - half) ≡ 2 ^ 32 - half = omega arith in
+    let e : suc (0xFFFFFFFF - half) ≡ 2 ^ 32 - half = omega arith in
     rw (lt-ltb n (2 ^ 32) l, both-true, ← e)
 
 returns : tie.Need-returns

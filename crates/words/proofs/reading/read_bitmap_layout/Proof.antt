@@ -1,6 +1,6 @@
 use borrow.Author.Needs.{needs}
 use Rattle.words.specs.Fields.{both}
-use Rattle.words.proofs.Table.{both-true}
+use Rattle.words.proofs.Tests.{both-true}
 use Rattle.words.proofs.reading.read_bitmap_layout.Statement.{statement}
 use Rattle.words.proofs.reading.read_bitmap_layout.Tie as tie
 

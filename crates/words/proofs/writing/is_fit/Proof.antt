@@ -1,5 +1,5 @@
 use borrow.Author.Needs.{needs}
-use Rattle.words.proofs.Table.{both-true}
+use Rattle.words.proofs.Tests.{both-true}
 use Rattle.words.proofs.writing.is_fit.Statement.{statement}
 use Rattle.words.proofs.writing.is_fit.Tie as tie
 
