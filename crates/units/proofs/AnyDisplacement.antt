@@ -4,9 +4,10 @@ use mathlib.Core.Path.{_≡_, refl, sym, _∙_, ap}
 use mathlib.Core.Bool.{Bool, true, false}
 use Prim.Native.Nat.{ℕ, zero, suc, _+_, _-_, _*_, _/_, _<_, _≤_}
 use native.Mathlib.Omega.{arith}
-use lib.Dec.{ltb}
-use lib.IntN.{ℤ, pos, negsuc, subℕ, natAbs, _+ℤ_, _-ℤ_, _*ℤ_, +ℤ-invr}
-use lib.Signed.{mag}
+use native.Mathlib.Nat.{mul-le-mul}
+use lib.Dec.{ltb, le→leb}
+use lib.IntN.{ℤ, pos, negsuc, subℕ, natAbs, negℤ, _+ℤ_, _-ℤ_, _*ℤ_, +ℤ-invr, +ℤ-comm, +ℤ-assoc, +ℤ-negℤ-cancel, -ℤ-+ℤ-cancel}
+use lib.Signed.{_≤ℤ_}
 use borrow.Author.Tests.{lt-ltb, le-ltb, ltb-true, ltb-false}
 use Rattle.units.specs.Units.{floor16}
 
@@ -74,18 +75,56 @@ meant-once d a b e =
 pub pixel-meant : (d n : ℕ) → subℕ (n + d) d ≡ pos n
 pixel-meant d n = sub-from (n + d) d (omega arith) ∙ ap pos (omega arith)
 
--- the displaced z: it is not negative, and it means z
-pub record DisplacedBy (d : ℕ) (z : ℤ) (k : ℕ) : Type 0 where
-  pub sum : z +ℤ pos d ≡ pos k
-  pub near : k < 2 * d
-  pub meant : subℕ k d ≡ z
+-- what is added to a kept number is added to the number meant
+pub moved-meant : (d a t : ℤ) → (a +ℤ t) -ℤ d ≡ (a -ℤ d) +ℤ t
+moved-meant d a t =
+    +ℤ-assoc a t (negℤ d) ∙ ap (λ (z : ℤ). a +ℤ z) (+ℤ-comm t (negℤ d)) ∙ sym (+ℤ-assoc a (negℤ d) t)
 
-pub displaced : (d : ℕ) (z : ℤ) → mag z < d → DisplacedBy d z (natAbs (z +ℤ pos d))
-displaced d (pos n) h = record { sum = refl; near = omega arith; meant = pixel-meant d n }
-displaced d (negsuc n) h =
-    rw (sub-from d (suc n) h)
-    (record {
-      sum = sub-from d (suc n) h;
-      near = omega arith;
-      meant = sub-below (d - suc n) d (omega arith) ∙ ap negsuc (omega arith);
-    })
+-- what is added to the origin is the number meant
+pub origin-meant : (d z : ℤ) → (d +ℤ z) -ℤ d ≡ z
+origin-meant d z = rw (+ℤ-comm d z) (+ℤ-negℤ-cancel z d)
+
+-- and the number meant, added to the origin, is the number kept
+pub meant-kept : (d a : ℤ) → d +ℤ (a -ℤ d) ≡ a
+meant-kept d a = rw (+ℤ-comm d (a -ℤ d)) (-ℤ-+ℤ-cancel a d)
+
+-- a + t, where t is at most m either way and m at most a: it is not negative, and at most m from a
+pub record Near (a m : ℕ) (t : ℤ) (k : ℕ) : Type 0 where
+  pub sum : pos a +ℤ t ≡ pos k
+  pub near : (a ≤ k + m) × (k ≤ a + m)
+
+pub nearby : (a m : ℕ) (t : ℤ) → natAbs t ≤ m → m ≤ a → Near a m t (natAbs (pos a +ℤ t))
+nearby a m (pos n) h k = record { sum = refl; near = (omega arith, omega arith) }
+nearby a m (negsuc n) h k =
+    let l : suc n ≤ a = omega arith in
+    rw (sub-from a (suc n) l)
+    (record { sum = sub-from a (suc n) l; near = (omega arith, omega arith) })
+
+abs-neg : (n : ℕ) → natAbs (negℤ (pos n)) ≡ n
+abs-neg zero = refl
+abs-neg (suc n) = refl
+
+-- a product, from the bounds of its factors
+pub times-most : (z : ℤ) (u m v : ℕ) → natAbs z ≤ m → u ≤ v → natAbs (z *ℤ pos u) ≤ m * v
+times-most (pos a) u m v h k = mul-le-mul h k
+times-most (negsuc a) u m v h k = rw (abs-neg (suc a * u)) (mul-le-mul h k)
+
+-- the order of two kept numbers is that of the numbers meant
+pub order-meant : (d a b : ℕ) → a ≤ b → subℕ a d ≤ℤ subℕ b d
+order-meant d a b l =
+    by-side a d (λ (z : ℤ). z ≤ℤ subℕ b d)
+    (λ h.
+    by-side b d (λ (z : ℤ). negsuc (d - suc a) ≤ℤ z)
+    (λ k. record { le = le→leb (d - suc b) (d - suc a) (omega arith) })
+    (λ k. record { le = tt }))
+    (λ h. rw (sub-from b d (omega arith)) (record { le = le→leb (a - d) (b - d) (omega arith) }))
+
+-- a number counted from m, added to a
+pub counted-most : (n m : ℕ) → n < m + m → natAbs (subℕ n m) ≤ m
+counted-most n m l = by-side n m (λ (z : ℤ). natAbs z ≤ m) (λ h. omega arith) (λ h. omega arith)
+
+pub counted-sum : (a n m : ℕ) → m ≤ a → natAbs (pos a +ℤ subℕ n m) ≡ a + n - m
+counted-sum a n m k =
+    by-side n m (λ (z : ℤ). natAbs (pos a +ℤ z) ≡ a + n - m)
+    (λ h. rw (sub-from a (suc (m - suc n)) (omega arith)) (omega arith))
+    (λ h. omega arith)

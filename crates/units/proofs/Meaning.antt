@@ -1,21 +1,56 @@
--- Each definition on kept numbers means what its contract says. Assumes nothing.
-use mathlib.Core.Path.{_≡_, refl, sym, _∙_}
-use Prim.Native.Nat.{ℕ, _*_}
-use lib.IntN.{ℤ}
-use Rattle.units.specs.Units.{displacement, meantPixels, meantSixteenths, distance, pixelAt, sixteenthAt, Placeable, floored, sampled, spaced, PixelOf, SixteenthOf, Holds, SampledAt, ApartBy}
+-- Each definition on kept numbers means what its contract says, and a number meant is kept in one way. Assumes nothing.
+use mathlib.Core.Path.{_≡_, refl, sym, _∙_, ap}
+use mathlib.Core.Bool.{Bool, true, false, cond}
+use Prim.Native.Nat.{ℕ, _+_, _-_, _*_, _^_, _<_, _≤_}
+use native.Mathlib.Omega.{arith}
+use lib.Dec.{ltb}
+use lib.IntN.{ℤ, pos, natAbs, subℕ, _+ℤ_, _-ℤ_, _*ℤ_}
+use lib.Signed.{_≤ℤ_}
+use borrow.Author.Tests.{ltb-true, ltb-false}
+use Rattle.units.specs.Units.{displacement, meantPixels, meantSixteenths, distance, pixelAt, sixteenthAt, floored, furtherOn, sampled, spaced, leastOf, mostOf, Movable, noShift, meantShift, shiftAt, ShiftOf, PixelOf, FurtherOn, SixteenthOf, MovedBy, Holds, SampledAt, ApartBy}
 use Rattle.units.specs.declared.Pixels.{Pixels}
 use Rattle.units.specs.declared.Sixteenths.{Sixteenths}
-use Rattle.units.proofs.AnyDisplacement.{displaced, meant-once, pixel-meant, floor-meant, sample-meant, apart-meant}
+use Rattle.units.proofs.AnyDisplacement.{nearby, meant-once, pixel-meant, moved-meant, origin-meant, meant-kept, floor-meant, sample-meant, apart-meant, order-meant, counted-most, counted-sum}
 
 pub pixel-at : (n : ℕ) → PixelOf n (pixelAt n)
 unfolding meantPixels
 pixel-at n = record { kept = refl; meant = pixel-meant displacement n }
 
-pub sixteenth-at : (n : ℤ) → Placeable n → SixteenthOf n (sixteenthAt n)
+pub further-on : (count : ℕ) (p : Pixels) → FurtherOn count p (furtherOn p count)
+unfolding meantPixels
+further-on count p =
+    record { kept = refl; meant = moved-meant (pos displacement) (pos (p .0)) (pos count) }
+
+pub sixteenth-at : (z : ℤ) → natAbs z ≤ 8 * displacement → SixteenthOf z (sixteenthAt z)
 unfolding meantSixteenths sixteenthAt
-sixteenth-at n h =
-    let e = displaced (16 * displacement) n h in
-    record { kept = refl; near = e .near; meant = e .meant }
+sixteenth-at z h =
+    let e = nearby (16 * displacement) (8 * displacement) z h (omega arith) in
+    record {
+      kept = refl;
+      near = (omega arith, omega arith);
+      meant = ap (λ (y : ℤ). y -ℤ pos (16 * displacement)) (sym (e .sum)) ∙ origin-meant (pos (16 * displacement)) z;
+    }
+
+pub moved-by : (t : ℤ) (s : Sixteenths) → natAbs t ≤ 2 ^ 31 → Movable s → MovedBy t s (record { 0 = natAbs (pos (s .0) +ℤ t) })
+unfolding meantSixteenths
+moved-by t s h m =
+    let e = nearby (s .0) (2 ^ 31) t h (m .0) in
+    record {
+      kept = refl;
+      near = e .near;
+      meant = ap (λ (y : ℤ). y -ℤ pos (16 * displacement)) (sym (e .sum)) ∙ moved-meant (pos (16 * displacement)) (pos (s .0)) t;
+    }
+
+pub shift-of : (t : ℤ) → natAbs t ≤ noShift → ShiftOf t (shiftAt t)
+unfolding meantShift shiftAt
+shift-of t h =
+    let e = nearby noShift noShift t h (omega arith) in
+    record { kept = refl; meant = ap (λ (y : ℤ). y -ℤ pos noShift) (sym (e .sum)) ∙ origin-meant (pos noShift) t }
+
+pub shifted-by : (n : ℕ) (s : Sixteenths) → n < 2 ^ 32 → Movable s → MovedBy (meantShift n) s (record { 0 = s .0 + n - noShift })
+unfolding meantShift
+shifted-by n s l m =
+    rw (sym (counted-sum (s .0) n noShift (m .0))) (moved-by (subℕ n noShift) s (counted-most n noShift l) m)
 
 pub floored-holds : (s : Sixteenths) → Holds (floored s) s
 unfolding meantPixels meantSixteenths
@@ -37,3 +72,61 @@ pixels-once p q e = meant-once displacement (p .0) (q .0) e
 pub sixteenths-once : (s t : Sixteenths) → meantSixteenths s ≡ meantSixteenths t → s .0 ≡ t .0
 unfolding meantSixteenths
 sixteenths-once s t e = meant-once (16 * displacement) (s .0) (t .0) e
+
+-- a position is the number that is kept of it
+pub pixels-at : {n : ℕ} {p : Pixels} → PixelOf n p → p ≡ pixelAt n
+pixels-at e = ap (λ (n : ℕ). record { 0 = n }) (e .kept)
+
+pub pixels-on : {n : ℕ} {p q : Pixels} → FurtherOn n p q → q ≡ furtherOn p n
+pixels-on e = ap (λ (n : ℕ). record { 0 = n }) (e .kept)
+
+pub pixels-holding : {p : Pixels} {s : Sixteenths} → Holds p s → p ≡ floored s
+pixels-holding e = ap (λ (n : ℕ). record { 0 = n }) (e .kept)
+
+-- a position is where it is meant to be
+pub at-meant : (s : Sixteenths) → s ≡ sixteenthAt (meantSixteenths s)
+unfolding meantSixteenths sixteenthAt
+at-meant s = rw (meant-kept (pos (16 * displacement)) (pos (s .0)))
+
+pub placed-at : {s : Sixteenths} {z : ℤ} → meantSixteenths s ≡ z → s ≡ sixteenthAt z
+placed-at {s} e = at-meant s ∙ ap sixteenthAt e
+
+-- a vertex of VERTEX2F, and one of VERTEX2II: the number in sixteenths, and the translation
+pub moved-at : {z t : ℤ} {s r : Sixteenths} → SixteenthOf z s → MovedBy t s r → r ≡ sixteenthAt (z +ℤ t)
+moved-at {z} {t} o m = placed-at (m .meant ∙ ap (λ (y : ℤ). y +ℤ t) (o .meant))
+
+pub sampled-moved-at : {n : ℕ} {t : ℤ} {p : Pixels} {s r : Sixteenths} → PixelOf n p → SampledAt p s → MovedBy t s r → r ≡ sixteenthAt (pos (16 * n) +ℤ t)
+sampled-moved-at {n} {t} o a m =
+    placed-at
+    (m .meant
+    ∙ ap (λ (y : ℤ). y +ℤ t) (a .meant ∙ ap (λ (y : ℤ). pos 16 *ℤ y) (o .meant)))
+
+-- two kept numbers in order mean two numbers in order
+pub in-order : (a b : Sixteenths) → a .0 ≤ b .0 → meantSixteenths a ≤ℤ meantSixteenths b
+unfolding meantSixteenths
+in-order a b l = order-meant (16 * displacement) (a .0) (b .0) l
+
+-- the smaller of two kept numbers, and the larger
+pub least-kept : (a b : Sixteenths) → (leastOf a b .0 ≤ a .0) × (leastOf a b .0 ≤ b .0)
+unfolding leastOf
+least-kept a b = go (ltb (b .0) (a .0)) refl
+  where
+    go : (t : Bool) → ltb (b .0) (a .0) ≡ t → (cond t b a .0 ≤ a .0) × (cond t b a .0 ≤ b .0)
+    go true e = let l = ltb-true (b .0) (a .0) e in (omega arith, omega arith)
+    go false e = let l = ltb-false (b .0) (a .0) e in (omega arith, omega arith)
+
+pub most-kept : (a b : Sixteenths) → (a .0 ≤ mostOf a b .0) × (b .0 ≤ mostOf a b .0)
+unfolding mostOf
+most-kept a b = go (ltb (a .0) (b .0)) refl
+  where
+    go : (t : Bool) → ltb (a .0) (b .0) ≡ t → (a .0 ≤ cond t b a .0) × (b .0 ≤ cond t b a .0)
+    go true e = let l = ltb-true (a .0) (b .0) e in (omega arith, omega arith)
+    go false e = let l = ltb-false (a .0) (b .0) e in (omega arith, omega arith)
+
+pub least-meant : (a b : Sixteenths) → (meantSixteenths (leastOf a b) ≤ℤ meantSixteenths a) × (meantSixteenths (leastOf a b) ≤ℤ meantSixteenths b)
+least-meant a b =
+    (in-order _ _ (least-kept a b .0), in-order _ _ (least-kept a b .1))
+
+pub most-meant : (a b : Sixteenths) → (meantSixteenths a ≤ℤ meantSixteenths (mostOf a b)) × (meantSixteenths b ≤ℤ meantSixteenths (mostOf a b))
+most-meant a b =
+    (in-order _ _ (most-kept a b .0), in-order _ _ (most-kept a b .1))

@@ -3,15 +3,17 @@
 -- "Pixel (p, q) is sampled at (16p, 16q).", "Dividing a negative vertex towards zero: -1 sixteenth lies in pixel -1."
 -- A position left of the screen or above it is negative, and a kept number never is: it is counted from an origin far up and left.
 use mathlib.Core.Path.{_≡_}
-use Prim.Native.Nat.{ℕ, _+_, _-_, _*_, _/_, _<_, _^_}
+use mathlib.Core.Bool.{cond}
+use Prim.Native.Nat.{ℕ, _+_, _-_, _*_, _/_, _<_, _≤_, _^_}
+use lib.Dec.{ltb}
 use lib.IntN.{ℤ, pos, negsuc, _+ℤ_, _-ℤ_, _*ℤ_, natAbs}
-use lib.Signed.{mag, _≤ℤ_, _<ℤ_}
+use lib.Signed.{_≤ℤ_, _<ℤ_}
 use Rattle.units.specs.declared.Pixels.{Pixels}
 use Rattle.units.specs.declared.Sixteenths.{Sixteenths}
 
 -- how many pixels the origin lies up and left of the screen
 abbrev pub displacement : ℕ
-displacement = 2 ^ 16
+displacement = 2 ^ 36
 
 -- the number that a kept one stands for
 unfoldable pub meantPixels : Pixels → ℤ
@@ -38,15 +40,28 @@ abbrev pub pixelAt : ℕ → Pixels
 pixelAt n = record { 0 = n + displacement }
 
 unfoldable pub sixteenthAt : ℤ → Sixteenths
-sixteenthAt n = record { 0 = natAbs (n +ℤ pos (16 * displacement)) }
+sixteenthAt z = record { 0 = natAbs (pos (16 * displacement) +ℤ z) }
 
--- n is no further from the screen's edge than the origin: -d ≤ n < d, where d is the displacement. `mag` of n and of -(n + 1) is n
-abbrev pub Placeable : ℤ → Type 0
-Placeable n = mag n < 16 * displacement
+-- a translation is kept as a shift, counted from the least that an i32 holds
+abbrev pub noShift : ℕ
+noShift = 2 ^ 31
 
--- in kept numbers: the pixel that holds a position, where a pixel is sampled, how far two positions are apart
+unfoldable pub meantShift : ℕ → ℤ
+meantShift n = pos n -ℤ pos noShift
+
+unfoldable pub shiftAt : ℤ → ℕ
+shiftAt z = natAbs (pos noShift +ℤ z)
+
+-- a position that any i32 can be added to: neither end of the kept numbers is nearer than that
+abbrev pub Movable : Sixteenths → Type 0
+Movable s = (2 ^ 31 ≤ s .0) × (s .0 < 2 ^ 62)
+
+-- in kept numbers: the pixel that holds a position, the pixel so many further on, where a pixel is sampled, how far two positions are apart
 abbrev pub floored : Sixteenths → Pixels
 floored s = record { 0 = s .0 / 16 }
+
+abbrev pub furtherOn : Pixels → ℕ → Pixels
+furtherOn p count = record { 0 = p .0 + count }
 
 abbrev pub sampled : Pixels → Sixteenths
 sampled p = record { 0 = 16 * p .0 }
@@ -54,15 +69,37 @@ sampled p = record { 0 = 16 * p .0 }
 abbrev pub spaced : Sixteenths → Sixteenths → ℕ
 spaced a b = (a .0 - b .0) + (b .0 - a .0)
 
+-- the one of two positions that is further up or left, and the one that is further down or right; the first, where they are the same
+unfoldable pub leastOf : Sixteenths → Sixteenths → Sixteenths
+leastOf a b = cond (ltb (b .0) (a .0)) b a
+
+unfoldable pub mostOf : Sixteenths → Sixteenths → Sixteenths
+mostOf a b = cond (ltb (a .0) (b .0)) b a
+
 -- The contracts. Each says which number is kept, for whoever computes with it, and what that number means.
 pub record PixelOf (n : ℕ) (p : Pixels) : Type 0 where
   pub kept : p .0 ≡ pixelAt n .0
   pub meant : meantPixels p ≡ pos n
 
-pub record SixteenthOf (n : ℤ) (s : Sixteenths) : Type 0 where
-  pub kept : s .0 ≡ sixteenthAt n .0
-  pub near : s .0 < 2 * (16 * displacement)
-  pub meant : meantSixteenths s ≡ n
+pub record FurtherOn (count : ℕ) (p q : Pixels) : Type 0 where
+  pub kept : q .0 ≡ furtherOn p count .0
+  pub meant : meantPixels q ≡ meantPixels p +ℤ pos count
+
+-- document 01: "A VERTEX2F number is multiplied by 2^(4-frac)", so that z is n *ℤ pos unit, with a unit of at most 16
+pub record SixteenthOf (z : ℤ) (s : Sixteenths) : Type 0 where
+  pub kept : s .0 ≡ sixteenthAt z .0
+  pub near : (8 * displacement ≤ s .0) × (s .0 < 32 * displacement)
+  pub meant : meantSixteenths s ≡ z
+
+pub record ShiftOf (t : ℤ) (n : ℕ) : Type 0 where
+  pub kept : n ≡ shiftAt t
+  pub meant : meantShift n ≡ t
+
+-- "then the translation is added": t is an i32, so that the position stays near
+pub record MovedBy (t : ℤ) (s r : Sixteenths) : Type 0 where
+  pub kept : r .0 ≡ natAbs (pos (s .0) +ℤ t)
+  pub near : (s .0 ≤ r .0 + 2 ^ 31) × (r .0 ≤ s .0 + 2 ^ 31)
+  pub meant : meantSixteenths r ≡ meantSixteenths s +ℤ t
 
 pub record Holds (p : Pixels) (s : Sixteenths) : Type 0 where
   pub kept : p .0 ≡ floored s .0

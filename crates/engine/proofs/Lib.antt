@@ -1,0 +1,3 @@
+mod Four
+mod Judging
+mod Turns

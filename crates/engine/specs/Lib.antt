@@ -1,0 +1,5 @@
+pub mod Context
+pub mod Handles
+pub mod Machine
+pub mod Kept
+pub mod Run

@@ -1,0 +1,13 @@
+// A display list run: the state of the engine, what each command does to it, and the actions that come of it.
+//
+// `advance` goes on from an engine to the next drawing action, the end or the fault. Its callers never see a word.
+mod context;
+mod handles;
+mod kept;
+mod machine;
+mod run;
+
+pub use kept::Engine;
+pub use run::Advanced;
+pub use run::Find;
+pub use run::advance;

@@ -1,0 +1,201 @@
+// A run from one drawing action to the next.
+ghost use mathlib.Core.Path.{_≡_};
+ghost use Prim.Native.Nat.{_≤_, _<_, _+_, _^_};
+ghost use lib.ListN.{getD, length};
+ghost use Rattle.engine.specs.Run.{clearOf, drawingOf, actionOf, wordAt, found, Advances};
+use crate::context::Context;
+use crate::kept::Engine;
+use crate::kept::Kept;
+use crate::machine::Event;
+use crate::machine::Flags;
+use crate::machine::Machine;
+use crate::machine::Shape;
+use action::Action;
+use action::Clear;
+use action::Drawing;
+
+// What a run came to next: a drawing action, or the end with its number and place in document 01's table.
+pub enum Find {
+    Drew(Action),
+    Over { number: u32, place: u32 },
+}
+
+// `left` is how many words are still allowed.
+pub struct Advanced {
+    pub engine: Engine,
+    pub left: u32,
+    pub find: Find,
+}
+
+fn wide(at: u32) -> usize
+    ensures { λ r. ⌜ r ≡ at ⌝ }
+{
+    at as usize
+}
+
+fn byte(list: &[u8], at: usize) -> u32
+    ensures { λ r. ⌜ r ≡ getD (now (list .entry)) at 0 ⌝ }
+    ensures { λ r. ⌜ r < 256 ⌝ }
+{
+    if at < list.len() {
+        return list[at] as u32;
+    }
+    0
+}
+
+// The word at a place; bytes past the list's end count as 0, and no word of a list of whole words has any. Four plain
+// reads are one load.
+fn word_at(list: &[u8], at: u32) -> u32
+    requires { ⌜ length (now list) ≤ 8192 ⌝ }
+    ensures { λ r. ⌜ r ≡ wordAt (now (list .entry)) at ⌝ }
+{
+    let i = at as usize;
+    if i + 3 < list.len() {
+        return list[i] as u32
+            + (0x100 * list[i + 1] as u32
+                + (0x10000 * list[i + 2] as u32 + 0x1000000 * list[i + 3] as u32));
+    }
+    byte(list, i)
+        + (0x100 * byte(list, i + 1)
+            + (0x10000 * byte(list, i + 2) + 0x1000000 * byte(list, i + 3)))
+}
+
+fn clear(context: Context, flags: Flags) -> Clear
+    ensures { λ r. ⌜ r ≡ clearOf context flags ⌝ }
+{
+    let values = context.clearing;
+    Clear {
+        colour: flags.colour,
+        stencil: flags.stencil,
+        tag: flags.tag,
+        values: values,
+    }
+}
+
+fn draw(context: Context, shape: Shape) -> Drawing
+    ensures { λ r. ⌜ r ≡ drawingOf context shape ⌝ }
+{
+    match shape {
+        Shape::Clear(flags) => Drawing::Clear(clear(context, flags)),
+        Shape::Point(point) => Drawing::Point(point, context.ink()),
+        Shape::Rectangle(rectangle) => Drawing::Rectangle(rectangle, context.ink()),
+        Shape::Bitmap(bitmap) => Drawing::Bitmap(bitmap, context.ink()),
+    }
+}
+
+fn act(context: Context, shape: Shape) -> Action
+    ensures { λ r. ⌜ r ≡ actionOf context shape ⌝ }
+{
+    let masks = context.masks;
+    let scissor = context.scissor();
+    let drawing = draw(context, shape);
+    Action {
+        scissor: scissor,
+        masks: masks,
+        drawing: drawing,
+    }
+}
+
+// A run that is over, with its number and place.
+fn over(now: Machine, kept: Kept, left: u32, number: u32, place: u32) -> Advanced
+    ensures { λ r. ⌜ r ≡ found now kept left (Find.Over number place) ⌝ }
+{
+    let engine = Engine {
+        now: now,
+        kept: kept,
+    };
+    let find = Find::Over {
+        number: number,
+        place: place,
+    };
+    Advanced {
+        engine: engine,
+        left: left,
+        find: find,
+    }
+}
+
+fn drew(now: Machine, kept: Kept, left: u32, shape: Shape) -> Advanced
+    ensures { λ r. ⌜ r ≡ found now kept left (Find.Drew (actionOf (now .context) shape)) ⌝ }
+{
+    let context = now.context;
+    let engine = Engine {
+        now: now,
+        kept: kept,
+    };
+    let find = Find::Drew(act(context, shape));
+    Advanced {
+        engine: engine,
+        left: left,
+        find: find,
+    }
+}
+
+// Goes on from an engine, with so many words allowed: to the next action if `halt` is set, else to the list's end or the
+// fault. The machine and the kept contexts are held apart, since few words touch the latter.
+pub fn advance(
+    from: Engine,
+    handles: &mut [u32; 512],
+    list: &[u8],
+    memory: u32,
+    allowed: u32,
+    halt: bool,
+) -> Advanced
+    requires { ⌜ (length (now list) ≤ 8192) × (memory ≤ 2 ^ 20) ⌝ }
+    ensures { λ r. ⌜ Advances (now (list .entry)) memory allowed halt (record { engine = from; handles = now (handles .entry) }) r (now (handles .exit)) ⌝ }
+{
+    let mut now = from.now;
+    let mut kept = from.kept;
+    let mut left = allowed;
+    while 0 < left {
+        let at = now.at;
+        if list.len() <= wide(at) {
+            return over(now, kept, left, 10, at);
+        }
+        left = left - 1;
+        let bits = word_at(list, at);
+        now.at = at + 4;
+        let stepped = now.step(handles, memory, bits);
+        let next = stepped.machine;
+        let event = stepped.event;
+        now = next;
+        match event {
+            Event::Quiet => {}
+            Event::Save => {
+                let engine = Engine {
+                    now: now,
+                    kept: kept,
+                };
+                let saved = engine.push();
+                let after = saved.now;
+                let more = saved.kept;
+                now = after;
+                kept = more;
+            }
+            Event::Restore => {
+                let engine = Engine {
+                    now: now,
+                    kept: kept,
+                };
+                let restored = engine.pop();
+                let after = restored.now;
+                let fewer = restored.kept;
+                now = after;
+                kept = fewer;
+            }
+            Event::Draw(shape) => {
+                if halt {
+                    return drew(now, kept, left, shape);
+                }
+            }
+            Event::Ended => {
+                return over(now, kept, left, 0, 0);
+            }
+            Event::Fault(number) => {
+                return over(now, kept, left, number, at);
+            }
+        }
+    }
+    let at = now.at;
+    over(now, kept, left, 19, at)
+}
