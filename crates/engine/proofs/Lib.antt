@@ -1,3 +1,6 @@
+mod Endings
+pub mod Examples
 mod Four
 mod Judging
+pub mod Saves
 mod Turns

@@ -3,3 +3,5 @@ pub mod Handles
 pub mod Machine
 pub mod Kept
 pub mod Run
+pub mod Saves
+pub mod Examples

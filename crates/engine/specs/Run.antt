@@ -6,12 +6,13 @@ use mathlib.Core.Bool.{Bool, true, false, cond}
 use mathlib.Core.List.{List, [], _∷_}
 use Prim.Native.Nat.{ℕ, zero, suc, _+_, _-_, _*_, _<_, _≤_, _^_}
 use lib.Dec.{ltb}
-use lib.ListN.{getD, length}
+use lib.ListN.{getD, length, replicate}
 use Rattle.action.specs.declared.Action.{Action}
 use Rattle.action.specs.declared.ink.Clear.{Clear}
 use Rattle.action.specs.declared.Drawing.{Drawing}
 use Rattle.action.specs.declared.Drawing.the-variants as d
 use Rattle.engine.specs.declared.run.Advanced.{Advanced}
+use Rattle.engine.specs.declared.run.Ending.{Ending}
 use Rattle.engine.specs.declared.run.Find.{Find}
 use Rattle.engine.specs.declared.run.Find.the-variants as f
 use Rattle.engine.specs.declared.context.Context.{Context}
@@ -24,7 +25,7 @@ use Rattle.engine.specs.declared.machine.Machine.{Machine}
 use Rattle.engine.specs.declared.machine.Shape.{Shape}
 use Rattle.engine.specs.declared.machine.Shape.the-variants as s
 use Rattle.engine.specs.Context.{inkOf, scissorOf}
-use Rattle.engine.specs.Kept.{pushed, popped}
+use Rattle.engine.specs.Kept.{begun, pushed, popped}
 use Rattle.engine.specs.Machine.{Steps, steps, withPlace}
 
 -- AN ACTION: a shape, with the context's values that document 01 lists under 'An action's values'
@@ -109,6 +110,13 @@ run list memory (suc n) x =
     cond (ltb (placeOf x) (length list))
     (after (placeOf x) (nextOf list memory x .engine .now .context) (eventOf list memory x) (run list memory n (nextOf list memory x)))
     (stopped 10 (placeOf x) 0)
+
+-- 'Every run starts with all handles unset.'
+abbrev pub atStart : State
+atStart = record { engine = begun; handles = replicate 512 0 }
+
+abbrev pub endingOf : Ran → Ending
+endingOf r = record { number = r .number; place = r .place; count = r .count }
 
 -- THE NEXT ACTION. What was found first and then the rest of the run, when so many words were fetched up to it
 abbrev pub more : ℕ → Ran → Ran

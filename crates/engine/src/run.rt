@@ -2,7 +2,7 @@
 ghost use mathlib.Core.Path.{_≡_};
 ghost use Prim.Native.Nat.{_≤_, _<_, _+_, _^_};
 ghost use lib.ListN.{getD, length};
-ghost use Rattle.engine.specs.Run.{clearOf, drawingOf, actionOf, wordAt, found, Advances};
+ghost use Rattle.engine.specs.Run.{clearOf, drawingOf, actionOf, wordAt, found, Advances, atStart, endingOf, run as ran};
 use crate::context::Context;
 use crate::kept::Engine;
 use crate::kept::Kept;
@@ -198,4 +198,35 @@ pub fn advance(
     }
     let at = now.at;
     over(now, kept, left, 19, at)
+}
+
+// How a run ends: document 01's number, place and count.
+pub struct Ending {
+    pub number: u32,
+    pub place: u32,
+    pub count: u32,
+}
+
+// Runs a list from its start to its end or fault.
+pub fn finish(list: &[u8], memory: u32, limit: u32) -> Ending
+    requires { ⌜ (length (now list) ≤ 8192) × (memory ≤ 2 ^ 20) ⌝ }
+    ensures { λ r. ⌜ r ≡ endingOf (ran (now (list .entry)) memory limit atStart) ⌝ }
+{
+    let mut handles = [0; 512];
+    let advanced = advance(Engine::start(), &mut handles, list, memory, limit, false);
+    let left = advanced.left;
+    let find = advanced.find;
+    match find {
+        // Actions are not asked for, so that none is found.
+        Find::Drew(_) => Ending {
+            number: 0,
+            place: 0,
+            count: 0,
+        },
+        Find::Over { number, place } => Ending {
+            number: number,
+            place: place,
+            count: limit - left,
+        },
+    }
 }

@@ -1,6 +1,11 @@
 // The calls for C, as include/jokulvisp.h declares them. Each answers for every input.
 ghost use Rattle.jokulvisp.specs.Words.{ReadAnswer, WriteAnswer, wordTold};
 ghost use mathlib.Core.Path.{_≡_};
+
+mod check;
+
+pub use check::JvAnswer;
+pub use check::jv_check;
 use words::Read;
 use words::Spelling;
 use words::Written;

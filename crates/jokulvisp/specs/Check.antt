@@ -1,0 +1,48 @@
+-- What jv_check answers. Document 01, 'Number table': '1 to 4 are tested in that order', then the run; '0 to 4 carry offset 0, and 1 to 4
+-- count 0'. It names no list: only repaint does.
+use mathlib.Core.Path.{_≡_}
+use mathlib.Core.Bool.{Bool, cond, _&&_}
+use mathlib.Core.List.{List}
+use Prim.Native.Nat.{ℕ, zero, suc, _%_}
+use lib.Dec.{eqb, leb}
+use lib.ListN.{length}
+use Rattle.engine.specs.Run.{Ran, run, atStart}
+use Rattle.jokulvisp.specs.declared.check.JvAnswer.{JvAnswer}
+
+-- THE LIMITS, document 01, 'The first build': 'Frame 1..800 wide, 1..600 high', 'List: 4..8,192 bytes, a multiple of 4', 'RAM_G: 0..1,048,576
+-- bytes', 'Step limit 1..65,536'
+abbrev pub within : ℕ → ℕ → ℕ → Bool
+within low high n = leb low n && leb n high
+
+unfoldable pub isFrame : ℕ → ℕ → Bool
+isFrame width height = within 1 800 width && within 1 600 height
+
+unfoldable pub isList : ℕ → Bool
+isList n = within 4 8192 n && eqb (n % 4) 0
+
+unfoldable pub isMemory : ℕ → Bool
+isMemory n = leb n 1048576
+
+unfoldable pub isLimit : ℕ → Bool
+isLimit n = within 1 65536 n
+
+-- the number of the first limit that is broken, and 0 where none is
+unfoldable pub refusalOf : ℕ → ℕ → ℕ → ℕ → ℕ → ℕ
+refusalOf list memory width height limit =
+    cond (isFrame width height) (cond (isList list) (cond (isMemory memory) (cond (isLimit limit) 0 4) 3) 2) 1
+
+-- THE ANSWER
+abbrev pub refused : ℕ → JvAnswer
+refused number = record { number = number; list = 0; place = 0; count = 0 }
+
+abbrev pub ended : Ran → JvAnswer
+ended r = record { number = r .number; list = 0; place = r .place; count = r .count }
+
+abbrev pub checkTold : ℕ → Ran → JvAnswer
+checkTold zero r = ended r
+checkTold (suc n) r = refused (suc n)
+
+-- jv_check, for every list, every length of RAM_G, every size and every limit
+unfoldable pub CheckAnswer : List ℕ → ℕ → ℕ → ℕ → ℕ → JvAnswer → Type 0
+CheckAnswer list memory width height limit answer =
+    answer ≡ checkTold (refusalOf (length list) memory width height limit) (run list memory limit atStart)

@@ -1,0 +1,83 @@
+// jv_check, and the limits that it shares with the other calls on lists.
+ghost use mathlib.Core.Path.{_≡_};
+ghost use lib.ListN.{length};
+ghost use Rattle.jokulvisp.specs.Check.{isFrame, isList, isMemory, isLimit, refusalOf, refused, CheckAnswer};
+
+#[repr(C)]
+pub struct JvAnswer {
+    pub number: u32,
+    pub list: u32,
+    pub place: u32,
+    pub count: u32,
+}
+
+fn is_frame(width: u32, height: u32) -> bool
+    ensures { λ r. ⌜ r ≡ isFrame width height ⌝ }
+{
+    (1 <= width) & (width <= 800) & ((1 <= height) & (height <= 600))
+}
+
+fn is_list(length: usize) -> bool
+    ensures { λ r. ⌜ r ≡ isList length ⌝ }
+{
+    (4 <= length) & (length <= 8192) & (length % 4 == 0)
+}
+
+fn is_memory(length: usize) -> bool
+    ensures { λ r. ⌜ r ≡ isMemory length ⌝ }
+{
+    length <= 1048576
+}
+
+fn is_limit(limit: u32) -> bool
+    ensures { λ r. ⌜ r ≡ isLimit limit ⌝ }
+{
+    (1 <= limit) & (limit <= 65536)
+}
+
+// Number 1, 2, 3 or 4 of document 01's table, or 0 where all is within its limits.
+fn refuse(list: usize, memory: usize, width: u32, height: u32, limit: u32) -> u32
+    ensures { λ r. ⌜ r ≡ refusalOf list memory width height limit ⌝ }
+{
+    if !is_frame(width, height) {
+        return 1;
+    }
+    if !is_list(list) {
+        return 2;
+    }
+    if !is_memory(memory) {
+        return 3;
+    }
+    if !is_limit(limit) {
+        return 4;
+    }
+    0
+}
+
+#[no_mangle]
+pub extern "C" fn jv_check(
+    list: &[u8],
+    memory: &[u8],
+    width: u32,
+    height: u32,
+    limit: u32,
+) -> JvAnswer
+    ensures { λ r. ⌜ CheckAnswer (now (list .entry)) (length (now (memory .entry))) width height limit r ⌝ }
+{
+    let number = refuse(list.len(), memory.len(), width, height, limit);
+    if number != 0 {
+        return JvAnswer {
+            number: number,
+            list: 0,
+            place: 0,
+            count: 0,
+        };
+    }
+    let ending = engine::finish(list, memory.len() as u32, limit);
+    JvAnswer {
+        number: ending.number,
+        list: 0,
+        place: ending.place,
+        count: ending.count,
+    }
+}
