@@ -2,15 +2,18 @@
 -- Assumes nothing.
 use Prim.Native.Nat.{ℕ}
 use mathlib.Core.Path.{_≡_, refl, sym, ap, _∙_}
+use mathlib.Core.List.{[]}
 use native.Mathlib.Omega.{arith}
 use Rattle.words.specs.declared.reading.Read.{Read}
 use Rattle.words.specs.declared.reading.Read.the-variants as r
 use Rattle.words.specs.declared.spelling.Spelling.{Spelling}
+use Rattle.words.specs.declared.telling.Spelt.{Spelt}
+use Rattle.words.specs.declared.telling.Spelt.the-variants as t
 use Rattle.words.specs.declared.word.Word.{Word}
 use Rattle.words.specs.declared.writing.Written.{Written}
 use Rattle.words.specs.declared.writing.Written.the-variants as o
-use Rattle.words.specs.Table.{spelled}
-use Rattle.words.specs.Words.{readNumber, readWord, writtenNumber, writeSpelling, cleared}
+use Rattle.words.specs.Table.{spelled, spelling}
+use Rattle.words.specs.Words.{readNumber, readWord, told, writtenNumber, writeSpelling, cleared}
 use Rattle.words.proofs.Round.{read-spelling, written-read}
 use Rattle.jokulvisp.specs.declared.JvBits.{JvBits}
 use Rattle.jokulvisp.specs.declared.JvWord.{JvWord}
@@ -28,9 +31,20 @@ write-once s p q h k = h ∙ sym k
 
 -- FROM THE CRATE `words` TO AN ANSWER.
 
-pub read-answer : (bits : ℕ) (found : Read) (answer : JvWord) → found ≡ readWord bits → answer ≡ readTold found → ReadAnswer bits answer
+-- the answer for a word as plain numbers
+abbrev pub speltTold : Spelt → JvWord
+speltTold (t.Fields s) = wordTold 0 s
+speltTold t.NoCommand = wordTold 11 (spelling 0 [])
+speltTold t.NoMeaning = wordTold 12 (spelling 0 [])
+
+told-same : (q : Read) → speltTold (told q) ≡ readTold q
+told-same (r.Command c) = refl
+told-same r.NoCommand = refl
+told-same r.NoMeaning = refl
+
+pub read-answer : (bits : ℕ) (found : Spelt) (answer : JvWord) → found ≡ told (readWord bits) → answer ≡ speltTold found → ReadAnswer bits answer
 unfolding ReadAnswer
-read-answer bits found answer e h = h ∙ ap readTold e
+read-answer bits found answer e h = h ∙ ap speltTold e ∙ told-same (readWord bits)
 
 pub write-answer : (s : Spelling) (made : Written) (answer : JvBits) → made ≡ writeSpelling s → answer ≡ writtenTold made → WriteAnswer s answer
 unfolding WriteAnswer

@@ -6,8 +6,8 @@ mod check;
 
 pub use check::JvAnswer;
 pub use check::jv_check;
-use words::Read;
 use words::Spelling;
+use words::Spelt;
 use words::Written;
 
 #[repr(C)]
@@ -46,10 +46,10 @@ pub extern "C" fn jv_read_word(bits: u32) -> JvWord
     ensures { λ r. ⌜ ReadAnswer bits r ⌝ }
 {
     let nothing = Spelling(0, 0, 0, 0, 0, 0);
-    match words::read_word(bits) {
-        Read::Command(word) => tell(0, words::spell(word)),
-        Read::NoCommand => tell(11, nothing),
-        Read::NoMeaning => tell(12, nothing),
+    match words::spell_bits(bits) {
+        Spelt::Fields(s) => tell(0, s),
+        Spelt::NoCommand => tell(11, nothing),
+        Spelt::NoMeaning => tell(12, nothing),
     }
 }
 

@@ -13,7 +13,7 @@ use borrow.Author.Tests.{ltb-true, ltb-false, lt-ltb, le-ltb, le-leb, leb-true}
 use Rattle.words.specs.declared.field.Field.{Field}
 use Rattle.words.specs.declared.field.Field.the-variants.{Bits, Only, Signed}
 use Rattle.words.specs.Fields.{both, either, extended, holdsSigned, width, value, means, holds, total, above, values, allMean, fit, join}
-use Rattle.words.proofs.Table.{signs, allSigns}
+use Rattle.words.specs.Layout.{signs, allSigns}
 use Rattle.words.proofs.Tests.{both-left, both-right, both-of, either-cases}
 
 -- a digit below A before a number below B
@@ -39,7 +39,7 @@ join-fits fs ns l = omega (arith, join-lt fs ns, pow-mono l)
 
 -- a signed field of k bits
 module _ (k : ℕ) (wide : k ≤ 30) (some : 1 ≤ k) where
-  halves : 2 ^ k / 2 + 2 ^ k / 2 ≡ 2 ^ k
+  pub halves : 2 ^ k / 2 + 2 ^ k / 2 ≡ 2 ^ k
   halves =
       let q : k ≡ suc (k - 1) = omega arith in
       let e : 2 ^ k ≡ 2 ^ (k - 1) * 2 = ap (λ (x : ℕ). 2 ^ x) q ∙ pow-suc 2 (k - 1) in
@@ -121,7 +121,7 @@ held-means (Signed k) n h = refl
 
 -- ALL FIELDS.
 
-above-div : (fs : List Field) (w : ℕ) → above fs w ≡ w / 2 ^ total fs
+pub above-div : (fs : List Field) (w : ℕ) → above fs w ≡ w / 2 ^ total fs
 above-div [] w = omega arith
 above-div (f ∷ fs) w = refl
 

@@ -19,12 +19,12 @@ use Rattle.words.proofs.Table.{Sound, sound}
 
 -- FIELDS WITHOUT BITS after a command's own change nothing.
 
-abbrev padded : List Field → ℕ → List Field
+abbrev pub padded : List Field → ℕ → List Field
 padded [] zero = []
 padded [] (suc k) = Bits 0 ∷ padded [] k
 padded (f ∷ fs) k = f ∷ padded fs k
 
-total-padded : (fs : List Field) (k : ℕ) → total (padded fs k) ≡ total fs
+pub total-padded : (fs : List Field) (k : ℕ) → total (padded fs k) ≡ total fs
 total-padded [] zero = refl
 total-padded [] (suc k) = omega (arith, total-padded [] k)
 total-padded (f ∷ fs) k = ap (λ (t : ℕ). width f + t) (total-padded fs k)
@@ -58,7 +58,7 @@ OfLayout A P (Three a b c) = P (a ∷ b ∷ c ∷ [])
 OfLayout A P (Four a b c d) = P (a ∷ b ∷ c ∷ d ∷ [])
 OfLayout A P (Five a b c d e) = P (a ∷ b ∷ c ∷ d ∷ e ∷ [])
 
-of-laid : (A : Type 0) (P : List Field → Type 0) (fs : List Field) → length fs ≤ 5 → P fs → OfLayout A P (laid fs)
+pub of-laid : (A : Type 0) (P : List Field → Type 0) (fs : List Field) → length fs ≤ 5 → P fs → OfLayout A P (laid fs)
 of-laid A P [] l h = h
 of-laid A P (a ∷ []) l h = h
 of-laid A P (a ∷ b ∷ []) l h = h

@@ -12,8 +12,8 @@ use lib.ListN.{length}
 use lib.Pow.{pow-mono}
 use borrow.Author.Tests.{leb-true, ltb-true, eqb-true, ne-eqb}
 use Rattle.words.specs.declared.field.Field.{Field}
-use Rattle.words.specs.declared.field.Field.the-variants.{Bits, Only, Signed}
 use Rattle.words.specs.Fields.{both, either, total}
+use Rattle.words.specs.Layout.{allSigns}
 use Rattle.words.specs.Table.{Row, row, Make, rows, Found, none, some, find, rowOf}
 use Rattle.words.specs.Words.{byTopBits, command}
 use Rattle.words.proofs.Tests.{both-left, both-right, either-cases}
@@ -21,16 +21,6 @@ use Rattle.words.proofs.Tests.{both-left, both-right, either-cases}
 -- A top byte below 46 leaves 24 bits, the two top bits of a vertex 30; no command has more than five fields.
 topped : ℕ → ℕ → Bool
 topped code bits = either (both (ltb code 46) (leb bits 24)) (both (either (eqb code 0x40) (eqb code 0x80)) (leb bits 30))
-
--- a signed field has a bit for the sign
-abbrev pub signs : Field → Bool
-signs (Bits k) = true
-signs (Only k m) = true
-signs (Signed k) = leb 1 k
-
-abbrev pub allSigns : List Field → Bool
-allSigns [] = true
-allSigns (f ∷ fs) = both (signs f) (allSigns fs)
 
 proper : Row → Bool
 proper (row code fs make) = both (both (leb (length fs) 5) (allSigns fs)) (topped code (total fs))

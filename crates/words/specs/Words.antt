@@ -7,6 +7,8 @@ use Rattle.words.specs.declared.word.Word.{Word}
 use Rattle.words.specs.declared.reading.Read.{Read}
 use Rattle.words.specs.declared.reading.Read.the-variants as r
 use Rattle.words.specs.declared.spelling.Spelling.{Spelling}
+use Rattle.words.specs.declared.telling.Spelt.{Spelt}
+use Rattle.words.specs.declared.telling.Spelt.the-variants as t
 use Rattle.words.specs.declared.writing.Written.{Written}
 use Rattle.words.specs.declared.writing.Written.the-variants as o
 use Rattle.words.specs.Fields.{values, allMean, fit, join, total}
@@ -34,6 +36,12 @@ readAs (some (row code fs make)) w = checked (allMean fs (values fs w)) (apply f
 
 unfoldable pub readWord : ℕ → Read
 readWord w = readAs (rowOf (command w)) w
+
+-- what is read, as plain numbers: include/jokulvisp.h, 'the word's command, and its fields'
+abbrev pub told : Read → Spelt
+told (r.Command c) = t.Fields (spelled c)
+told r.NoCommand = t.NoCommand
+told r.NoMeaning = t.NoMeaning
 
 -- WRITING. 11 as in reading, 12 also for a field that its bits cannot hold. Bits that no field has are 0.
 unfoldable pub written : Bool → ℕ → Written

@@ -1,7 +1,7 @@
 // The fields of the commands: how wide each is, and which of its numbers have a meaning.
 ghost use mathlib.Core.Path.{_≡_};
 ghost use Prim.Native.Nat.{_^_, _<_};
-ghost use Rattle.words.specs.Fields.{both, either, meant, width, holdsSigned, holds};
+ghost use Rattle.words.specs.Fields.{both, either, meant, means, width, holdsSigned, holds};
 ghost use Rattle.words.specs.Table.{rowOf};
 ghost use Rattle.words.specs.Layout.{layoutOf};
 
@@ -168,6 +168,16 @@ pub fn is_meant(meaning: Meaning, n: u32) -> bool
         Meaning::Format => is_format(n),
         Meaning::Frac => n <= 4,
         Meaning::ScissorSide => n <= 2048,
+    }
+}
+
+pub fn is_meaningful(field: Field, n: u32) -> bool
+    ensures { λ r. ⌜ r ≡ means field n ⌝ }
+{
+    match field {
+        Field::Bits(_) => true,
+        Field::Only(_, meaning) => is_meant(meaning, n),
+        Field::Signed(_) => true,
     }
 }
 

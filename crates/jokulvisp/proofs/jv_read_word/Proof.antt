@@ -3,14 +3,11 @@ use Rattle.jokulvisp.proofs.Words.{read-answer}
 use Rattle.jokulvisp.proofs.jv_read_word.Statement.{statement}
 use Rattle.jokulvisp.proofs.jv_read_word.Tie as tie
 
-read-word-requires : tie.Need-read-word-requires
-read-word-requires c κs = search needs
+spell-bits-requires : tie.Need-spell-bits-requires
+spell-bits-requires c κs = search needs
 
-enum-known-word : tie.Need-enum-known-word
-enum-known-word c = search needs
-
-spell-requires : tie.Need-spell-requires
-spell-requires c κs = search needs
+enum-known-s : tie.Need-enum-known-s
+enum-known-s c = search needs
 
 tell-requires : tie.Need-tell-requires
 tell-requires c κs = search needs
@@ -31,36 +28,35 @@ returns : tie.Need-returns
 returns c =
     read-answer
     _
-    (c .before .before .before .before .before .read-word .result)
+    (c .before .before .before .before .spell-bits .result)
     _
-    (c .before .before .before .before .before .read-word .ensures)
-    (rw (c .before .before .before .word .given .1, c .tell .ensures, c .before .spell .ensures))
+    (c .before .before .before .before .spell-bits .ensures)
+    (rw (c .before .before .s .given .1, c .tell .ensures))
 
 returns-2 : tie.Need-returns-2
 returns-2 c =
     read-answer
     _
-    (c .before .before .before .read-word .result)
+    (c .before .before .before .spell-bits .result)
     _
-    (c .before .before .before .read-word .ensures)
+    (c .before .before .before .spell-bits .ensures)
     (rw (c .before .enum-told .given .1, c .tell2 .ensures))
 
 returns-3 : tie.Need-returns-3
 returns-3 c =
     read-answer
     _
-    (c .before .before .before .read-word .result)
+    (c .before .before .before .spell-bits .result)
     _
-    (c .before .before .before .read-word .ensures)
+    (c .before .before .before .spell-bits .ensures)
     (rw (c .before .enum-told2 .given .1, c .tell3 .ensures))
 
 pub jv-read-word-spec : {M : Type 1} → statement M
 jv-read-word-spec =
     tie.close
     (tie.spec
-    read-word-requires
-    enum-known-word
-    spell-requires
+    spell-bits-requires
+    enum-known-s
     tell-requires
     enum-told
     tell-requires-2

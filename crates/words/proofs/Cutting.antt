@@ -1,0 +1,114 @@
+-- The fields that the code cuts out of a word by its command's layout are those that the table reads.
+-- Assumes nothing.
+use Prim.Native.Nat.{ℕ, zero, suc, _+_, _-_, _/_, _^_, _≤_, _<_}
+use mathlib.Core.Path.{_≡_, refl, sym, ap, subst, _∙_}
+use mathlib.Core.Bool.{Bool, true, false}
+use mathlib.Core.List.{List, [], _∷_}
+use native.Mathlib.Omega.{arith}
+use lib.ListN.{length, getD}
+use lib.Pow.{pow-mono}
+use borrow.Author.Tests.{leb-true}
+use Rattle.words.specs.declared.field.Field.{Field}
+use Rattle.words.specs.declared.field.Field.the-variants.{Signed}
+use Rattle.words.specs.declared.field.Layout.{Layout}
+use Rattle.words.specs.declared.telling.Spelt.the-variants as t
+use Rattle.words.specs.declared.word.Word.{Word}
+use Rattle.words.specs.Fields.{both, total, above, values, allMean}
+use Rattle.words.specs.Layout.{layoutOf, allSigns, Cuttable, Inside, Digit, spelt, speltAs}
+use Rattle.words.specs.Table.{row, Found, none, some, rowOf, apply, spelling, spelled}
+use Rattle.words.specs.Words.{command, checked, readAs, readWord, told}
+use Rattle.words.proofs.Digits.{halves, above-div}
+use Rattle.words.proofs.Packing.{padded, total-padded, OfLayout, of-laid}
+use Rattle.words.proofs.Rows.{Makes, makes}
+use Rattle.words.proofs.Table.{Sound, sound}
+use Rattle.words.proofs.Tests.{both-left, both-right}
+
+-- ONE FIELD of several.
+
+pub first : {f : Field} {fs : List Field} → Cuttable (f ∷ fs) → Inside f (total fs)
+first h = record { enough = h .narrow; signed = both-left _ _ (h .signed) }
+
+pub rest : {f : Field} {fs : List Field} → Cuttable (f ∷ fs) → Cuttable fs
+rest h = record { narrow = omega (arith, h .narrow); signed = both-right _ _ (h .signed) }
+
+pub signed-digit : {k n : ℕ} → Digit (Signed k) n → (2 ^ k / 2 ≤ 2 ^ 30) × (n < 2 ^ k / 2 + 2 ^ k / 2)
+signed-digit {k} h = (omega (arith, pow-mono (h .narrow)), omega (arith, h .below, halves k (h .narrow) (leb-true _ _ (h .signed))))
+
+-- FIELDS WITHOUT BITS after a command's own read as 0 and change nothing.
+
+above-padded : (fs : List Field) (k w : ℕ) → above (padded fs k) w ≡ above fs w
+above-padded fs k w = above-div (padded fs k) w ∙ rw (total-padded fs k) (sym (above-div fs w))
+
+values-padded : (fs : List Field) (k w i : ℕ) → getD (values (padded fs k) w) i 0 ≡ getD (values fs w) i 0
+values-padded [] zero w i = refl
+values-padded [] (suc k) w zero = omega arith
+values-padded [] (suc k) w (suc i) = values-padded [] k w i
+values-padded (f ∷ fs) k w zero = rw (above-padded fs k w)
+values-padded (f ∷ fs) k w (suc i) = values-padded fs k w i
+
+means-padded : (fs : List Field) (k w : ℕ) → allMean (padded fs k) (values (padded fs k) w) ≡ allMean fs (values fs w)
+unfolding both
+means-padded [] zero w = refl
+means-padded [] (suc k) w = means-padded [] k w
+means-padded (f ∷ fs) k w = rw (above-padded fs k w, means-padded fs k w)
+
+signs-padded : (fs : List Field) (k : ℕ) → allSigns (padded fs k) ≡ allSigns fs
+unfolding both
+signs-padded [] zero = refl
+signs-padded [] (suc k) = signs-padded [] k
+signs-padded (f ∷ fs) k = rw (signs-padded fs k)
+
+spelling-by : (n : ℕ) (ns ms : List ℕ) → ((i : ℕ) → getD ns i 0 ≡ getD ms i 0) → spelling n ns ≡ spelling n ms
+spelling-by n ns ms h = λ i. record { 0 = n; 1 = h 0 i; 2 = h 1 i; 3 = h 2 i; 4 = h 3 i; 5 = h 4 i }
+
+spelt-padded : (fs : List Field) (k n w : ℕ) → speltAs n (padded fs k) w ≡ speltAs n fs w
+spelt-padded fs k n w =
+    rw (means-padded fs k w)
+    (ap (spelt (allMean fs (values fs w))) (spelling-by n (values (padded fs k) w) (values fs w) (values-padded fs k w)))
+
+cuttable-padded : (fs : List Field) (k : ℕ) → Cuttable fs → Cuttable (padded fs k)
+cuttable-padded fs k h = record { narrow = rw (total-padded fs k) (h .narrow); signed = rw (signs-padded fs k) (h .signed) }
+
+-- A ROW AS THE CODE KEEPS IT.
+
+told-checked : (b : Bool) (c : Word) → told (checked b c) ≡ spelt b (spelled c)
+unfolding checked spelt
+told-checked true c = refl
+told-checked false c = refl
+
+-- a command's fields and, up to five, fields without bits
+abbrev pub filled : List Field → List Field
+filled fs = padded fs (5 - length fs)
+
+-- what a layout says of the word w, whose command's number is n
+pub record Tells (w n : ℕ) (fs : List Field) : Type 0 where
+  pub cuttable : Cuttable (filled fs)
+  pub tells : speltAs n (filled fs) w ≡ told (readWord w)
+
+pub telling : (w : ℕ) {n : ℕ} {f l : Layout} → n ≡ command w → f ≡ layoutOf (rowOf n) → f ≡ l → OfLayout (told (readWord w) ≡ t.NoCommand) (Tells w n) l
+unfolding readWord
+telling w {n} e g h =
+    subst
+    (OfLayout (told (readWord w) ≡ t.NoCommand) (Tells w n))
+    (sym g ∙ h)
+    (go (rowOf n) refl (sound n) (makes n))
+  where
+    reads : (f : Found) → rowOf n ≡ f → readWord w ≡ readAs f w
+    reads f q = rw (← e, q)
+
+    go : (f : Found) → rowOf n ≡ f → Sound n f → Makes n f → OfLayout (told (readWord w) ≡ t.NoCommand) (Tells w n) (layoutOf f)
+    go none q p m = ap told (reads none q)
+    go (some (row code fs make)) q p m =
+        of-laid
+        (told (readWord w) ≡ t.NoCommand)
+        (Tells w n)
+        fs
+        (p .few)
+        (record {
+          cuttable = cuttable-padded fs (5 - length fs) (record { narrow = p .narrow; signed = p .signed });
+          tells =
+              spelt-padded fs (5 - length fs) n w
+              ∙ ap (spelt (allMean fs (values fs w))) (sym (m w))
+              ∙ sym (told-checked (allMean fs (values fs w)) (apply fs make (values fs w)))
+              ∙ ap told (sym (reads (some (row code fs make)) q));
+        })
