@@ -6,6 +6,7 @@ use Prim.Native.Nat.{ℕ, zero, suc, _≤_, _^_}
 use native.Mathlib.Omega.{arith}
 use lib.Dec.{leb}
 use borrow.Author.Tests.{leb-true}
+use Rattle.engine.specs.declared.run.Ending.{Ending}
 use Rattle.engine.specs.Run.{Ran}
 use Rattle.jokulvisp.specs.declared.check.JvAnswer.{JvAnswer}
 use Rattle.jokulvisp.specs.Check.{isFrame, isList, isMemory, isLimit, refusalOf, refused, checkTold, CheckAnswer}
@@ -13,6 +14,10 @@ use Rattle.jokulvisp.specs.Check.{isFrame, isList, isMemory, isLimit, re
 pub check-once : (list : List ℕ) (memory width height limit : ℕ) (a b : JvAnswer) → CheckAnswer list memory width height limit a → CheckAnswer list memory width height limit b → a ≡ b
 unfolding CheckAnswer
 check-once list memory width height limit a b p q = p ∙ sym q
+
+-- how a run ends, as C is told
+abbrev pub answered : Ending → JvAnswer
+answered x = record { number = x .number; list = 0; place = x .place; count = x .count }
 
 -- a refusal carries its number and nothing else
 pub told-refused : (n : ℕ) (r : Ran) → (n ≡ 0 → ⊥) → checkTold n r ≡ refused n

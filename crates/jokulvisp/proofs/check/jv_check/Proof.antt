@@ -1,7 +1,7 @@
-use mathlib.Core.Path.{_≡_, sym, _∙_}
+use mathlib.Core.Path.{_≡_, ap, sym, _∙_}
 use borrow.Author.Needs.{needs}
 use Rattle.jokulvisp.specs.Check.{refusalOf, CheckAnswer}
-use Rattle.jokulvisp.proofs.Checking.{admitted, told-refused}
+use Rattle.jokulvisp.proofs.Checking.{answered, admitted, told-refused}
 use Rattle.jokulvisp.proofs.check.jv_check.Statement.{statement}
 use Rattle.jokulvisp.proofs.check.jv_check.Tie as tie
 
@@ -26,7 +26,7 @@ finish-requires c κs =
 
 returns-2 : tie.Need-returns-2
 unfolding CheckAnswer
-returns-2 c = rw (sym (c .before .before .refuse .ensures) ∙ c .before .if1 .left, c .finish .ensures)
+returns-2 c = rw (sym (c .before .before .refuse .ensures) ∙ c .before .if1 .left) (ap answered (c .finish .ensures))
 
 pub jv-check-spec : {M : Type 1} → statement M
 jv-check-spec = tie.close (tie.spec refuse-requires returns cast-finish finish-requires returns-2)
