@@ -1,4 +1,4 @@
-/* jokulvisp.h - display list words of FT81x and BT88x panels, read and written.
+/* jokulvisp.h - display lists of FT81x and BT88x panels: their words read and written, whole lists checked.
  *
  * This file is the library's manual as well as its declarations. The archive to link is libjokulvisp.a; it holds x86-64
  * code only. The header is C11 and C++.
@@ -7,13 +7,16 @@
  *
  *   - It keeps no state: the same arguments always give the same answer, and calls may be made from several threads at
  *     once.
- *   - It takes numbers and gives numbers: no memory is lent, kept or allocated, and errno is left alone.
- *   - It takes every argument that its types can hold. What it cannot work with it refuses by a number in its answer,
- *     and whatever else is in the answer is then 0.
+ *   - It takes numbers and byte runs and gives numbers. A byte run is a pointer and a length in bytes; where the length
+ *     is 0 the pointer may be NULL. It is lent for the call only: it is not kept, and one that is lent as const is not
+ *     written. No memory is allocated, and errno is left alone.
+ *   - It takes every number that its types can hold. What it cannot work with it refuses by a number in its answer, and
+ *     each call says what else the answer then holds.
  */
 #ifndef JOKULVISP_H
 #define JOKULVISP_H
 
+#include <stddef.h>
 #include <stdint.h>
 
 #ifdef __cplusplus
@@ -22,8 +25,8 @@ extern "C" {
 
 /* ---- Numbers -----------------------------------------------------------------------------------------------------
  *
- * Each answer begins with one of these. Reading or writing a single word gives 0, 11 or 12 and no other; the rest
- * are for whole lists, which are run and drawn.
+ * Each answer begins with one of these. Reading or writing a single word gives 0, 11 or 12 and no other; running a
+ * list gives any of them.
  */
 enum jv_number {
     JV_DONE            = 0,  /* done: the rest of the answer holds */
@@ -190,6 +193,7 @@ typedef struct { uint32_t number, bits; } jv_bits;
  *   12   a field's value has no meaning: STENCIL_FUNC's func above 7, a stencil action or blend factor above 5, BEGIN's
  *        prim 0 or above 9, a format that is not in the list above, frac above 4, SCISSOR_SIZE's width or height above
  *        2048.
+ * Where it is not 0, the command and all fields are 0.
  *
  * A word is judged by itself. Whether a list may use it where it stands (an offset past the list, a handle that is not
  * set up), or whether it can be drawn, is no question here.
@@ -208,11 +212,69 @@ jv_word jv_read_word(uint32_t bits);
  *   11   no such command, whatever the fields are;
  *   12   a field's value has no meaning, as in reading, or its bits cannot hold it, or a place that the command does
  *        not have is not 0.
+ * Where it is not 0, bits is 0.
  *
  *   jv_write_word(JV_SCISSOR_SIZE, 80, 60, 0, 0, 0)  gives  { 0, 0x1C05003C }
  *   jv_write_word(JV_TAG, 256, 0, 0, 0, 0)           gives  { 12, 0 }, for eight bits end at 255
  */
 jv_bits jv_write_word(uint32_t command, uint32_t a, uint32_t b, uint32_t c, uint32_t d, uint32_t e);
+
+/* ---- Lists -------------------------------------------------------------------------------------------------------
+ *
+ * A list is 4 to 8192 bytes, a multiple of 4: words one after the other, the lowest byte of each first. Its run starts
+ * at the first word with all settings at their starting values and no bitmap handle set up, goes on word by word, by
+ * CALL, RETURN and JUMP also elsewhere, and ends at DISPLAY.
+ */
+
+/* What the run of a list came to. */
+typedef struct { uint32_t number, list, place, count; } jv_answer;
+
+/* Says whether a list draws and, if it does not, which word is at fault and why.
+ *
+ * Takes the list; the graphics memory RAM_G, 0 to 1048576 bytes, of which the length alone counts here (a bitmap has to
+ * lie wholly inside); the frame's width, 1 to 800, and height, 1 to 600, in pixels; and the limit, 1 to 65536, of how
+ * many words the run may fetch. Neither byte run is written.
+ *
+ * Gives in number
+ *   0          the list draws: the run reached DISPLAY within the limit;
+ *   1 to 4     frame, list length, RAM_G length or limit is out of bounds, tested in this order; nothing was run;
+ *   10 to 19   the run stopped; at each step these are tested in this order:
+ *     19   the limit's worth of words has been fetched;
+ *     10   the next word starts at or past the list's end, for want of DISPLAY or after a CALL or JUMP past it;
+ *     11   there is no such command;
+ *     12   a field holds a value without meaning, as in jv_read_word;
+ *     13   the word is not drawn yet: BEGIN of a primitive other than BITMAPS, POINTS and RECTS; BITMAP_LAYOUT with a
+ *          format other than ARGB1555, L8 and RGB565; BITMAP_SIZE with BILINEAR or REPEAT; a BITMAP_TRANSFORM;
+ *          PALETTE_SOURCE; MACRO;
+ *     14   CALL while four calls are open;
+ *     15   RETURN while no call is open;
+ *     16   CALL or JUMP to an offset that is not a multiple of 4;
+ *     17   a vertex while no primitive is begun;
+ *     18   a vertex while BITMAPS is begun whose bitmap cannot be drawn: its handle has had no BITMAP_SOURCE, no
+ *          BITMAP_LAYOUT or no BITMAP_SIZE in this run; its stride, layout height, drawn width or drawn height is 0,
+ *          high bits included; its cell is not wholly inside RAM_G; or, in a format of two bytes a pixel, source or
+ *          stride is odd. VERTEX2II names handle and cell itself, VERTEX2F takes those of BITMAP_HANDLE and CELL.
+ *
+ * Gives in place, for 10 to 19, the byte offset of the word at fault; for 10 and 19 no word is at fault, and it is the
+ * offset of the one that would have been next. For 0 to 4 it is 0.
+ *
+ * Gives in count the words fetched, DISPLAY and the word at fault included; a word fetched twice counts twice. For 1 to
+ * 4 it is 0.
+ *
+ * Gives 0 in list, always: only a call that takes two lists has one to name.
+ *
+ *   static const uint8_t clear_screen[] = {
+ *       0x00, 0x00, 0xFF, 0x02,      CLEAR_COLOR_RGB   255, 0, 0
+ *       0x07, 0x00, 0x00, 0x26,      CLEAR             1, 1, 1
+ *       0x00, 0x00, 0x00, 0x00,      DISPLAY
+ *   };
+ *   jv_check(clear_screen, 12, NULL, 0, 480, 272, 65536)  gives  { 0, 0, 0, 3 }
+ *   jv_check(clear_screen, 8, NULL, 0, 480, 272, 65536)   gives  { 10, 0, 8, 2 }, for DISPLAY is missing
+ *   jv_check(clear_screen, 12, NULL, 0, 480, 272, 2)      gives  { 19, 0, 8, 2 }
+ *   jv_check(clear_screen, 12, NULL, 0, 801, 272, 65536)  gives  { 1, 0, 0, 0 }
+ */
+jv_answer jv_check(const uint8_t *list, size_t list_length, const uint8_t *ram_g, size_t ram_g_length, uint32_t width,
+                   uint32_t height, uint32_t limit);
 
 #ifdef __cplusplus
 }

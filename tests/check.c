@@ -28,8 +28,7 @@ int end_checks(void)
     return failed == 0 ? 0 : 1;
 }
 
-/* Counts a check. Says whether the caller is to print its failure, of which it prints the beginning. */
-static bool is_to_be_told(const char *file, int line, bool holds)
+bool is_to_be_told(const char *file, int line, bool holds)
 {
     made++;
     if (holds)

@@ -23,4 +23,8 @@ jv_bits check_write(const char *file, int line, instruction i, jv_bits want);
 #define CHECK_HOLDS(holds, what) check_holds(__FILE__, __LINE__, holds, what)
 void check_holds(const char *file, int line, bool holds, const char *what);
 
+/* A check that its caller has made: counts it. Says whether the caller is to print its failure, of which this prints
+   the beginning. */
+bool is_to_be_told(const char *file, int line, bool holds);
+
 #endif

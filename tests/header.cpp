@@ -1,5 +1,6 @@
-// The header as C++ sees it: the answers have the layout that C has, and both calls link and answer.
+// The header as C++ sees it: the answers have the layout that C has, and each call links and answers.
 #include <cstddef>
+#include <cstdint>
 #include <cstdio>
 #include <type_traits>
 
@@ -9,7 +10,20 @@ static_assert(sizeof(jv_word) == 28, "a word's answer is seven numbers");
 static_assert(sizeof(jv_bits) == 8, "a written word's answer is two numbers");
 static_assert(offsetof(jv_word, command) == 4 && offsetof(jv_word, a) == 8 && offsetof(jv_word, e) == 24, "in order");
 static_assert(offsetof(jv_bits, bits) == 4, "in order");
-static_assert(std::is_standard_layout<jv_word>::value && std::is_standard_layout<jv_bits>::value, "as in C");
+static_assert(sizeof(jv_answer) == 16, "a list's answer is four numbers");
+static_assert(offsetof(jv_answer, list) == 4 && offsetof(jv_answer, place) == 8 && offsetof(jv_answer, count) == 12,
+              "in order");
+static_assert(std::is_standard_layout<jv_word>::value && std::is_standard_layout<jv_bits>::value &&
+                  std::is_standard_layout<jv_answer>::value,
+              "as in C");
+
+// The manual's example: a red screen.
+static const std::uint8_t clear_screen[] = { 0x00, 0x00, 0xFF, 0x02, 0x07, 0x00, 0x00, 0x26, 0x00, 0x00, 0x00, 0x00 };
+
+static bool is_answer(const jv_answer &came, std::uint32_t number, std::uint32_t place, std::uint32_t count)
+{
+    return came.number == number && came.list == 0 && came.place == place && came.count == count;
+}
 
 int main()
 {
@@ -20,8 +34,12 @@ int main()
     const bool writes = written.number == JV_DONE && written.bits == 0x9B86EFD4;
     const bool refuses = jv_read_word(0xFFFFFFFF).number == JV_NO_COMMAND &&
                          jv_write_word(JV_BEGIN, 0, 0, 0, 0, 0).number == JV_NO_MEANING;
+    const bool checks = is_answer(jv_check(clear_screen, 12, nullptr, 0, 480, 272, 65536), JV_DONE, 0, 3) &&
+                        is_answer(jv_check(clear_screen, 8, nullptr, 0, 480, 272, 65536), JV_PAST_END, 8, 2) &&
+                        is_answer(jv_check(clear_screen, 12, nullptr, 0, 480, 272, 2), JV_LIMIT_REACHED, 8, 2) &&
+                        is_answer(jv_check(clear_screen, 12, nullptr, 0, 801, 272, 65536), JV_BAD_FRAME, 0, 0);
 
-    std::printf("from C++: reading %s, writing %s, refusing %s\n", reads ? "holds" : "FAILS",
-                writes ? "holds" : "FAILS", refuses ? "holds" : "FAILS");
-    return reads && writes && refuses ? 0 : 1;
+    std::printf("from C++: reading %s, writing %s, refusing %s, checking %s\n", reads ? "holds" : "FAILS",
+                writes ? "holds" : "FAILS", refuses ? "holds" : "FAILS", checks ? "holds" : "FAILS");
+    return reads && writes && refuses && checks ? 0 : 1;
 }

@@ -1,7 +1,8 @@
 # shellcheck shell=bash
 # Where things lie, what makes an x86-64 program on this machine, and what runs it. Sourced by .ci/run, tests/run,
-# tool/build and tool/run. The archive holds x86-64 code only, so an Arm machine takes a cross compiler and an emulator;
-# its programs are linked whole, so that the emulator needs no x86-64 system around them.
+# bench/run, tool/build and tool/run. The archive holds x86-64 code only, so an Arm machine takes a cross compiler and
+# an emulator. C programs are linked whole there. C++ programs cannot be, for the libm.a of Debian's cross package names
+# files where they are not; they take their shared libraries from that package.
 #
 #   root           the repository
 #   archive        the library to link; JV_ARCHIVE names another one
@@ -26,9 +27,8 @@ case "$(uname -m)" in
     aarch64 | arm64)
         CC=x86_64-linux-gnu-gcc
         CXX=x86_64-linux-gnu-g++
-        RUN=(qemu-x86_64)
+        RUN=(qemu-x86_64 -L /usr/x86_64-linux-gnu)
         C_FLAGS+=(-static)
-        CXX_FLAGS+=(-static)
         packages=(gcc-x86-64-linux-gnu g++-x86-64-linux-gnu libc6-dev-amd64-cross qemu-user)
         ;;
     *)
@@ -65,16 +65,21 @@ need_compilers() {
     exit 1
 }
 
-# Installs what is missing, with no one at the keyboard.
-install_missing() {
-    can_build && return
+# Installs the packages, with no one at the keyboard.
+install_packages() {
     if [ "$(id -u)" -ne 0 ] || ! command -v apt-get >/dev/null; then
-        echo "packages are missing, and only root can install them, with apt-get" >&2
-        need_compilers
+        echo "packages are missing, and only root can install them, with apt-get: ${packages[*]}" >&2
+        return 1
     fi
     export DEBIAN_FRONTEND=noninteractive
     apt-get update
     apt-get install -y --no-install-recommends "${packages[@]}"
+}
+
+# Installs what is missing to build and run programs.
+install_missing() {
+    can_build && return
+    install_packages || true
     need_compilers
 }
 

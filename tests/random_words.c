@@ -4,6 +4,7 @@
 #include <stdio.h>
 
 #include "check.h"
+#include "draw.h"
 
 enum { ROUNDS = 1000000, NUMBERS = 13 };
 
@@ -99,23 +100,6 @@ static void check_all_met(const tally *t, const char *numbers, const char *comma
     CHECK_HOLDS(each_was_met, commands);
 }
 
-/* Vigna's splitmix64: each call steps through a fixed sequence and mixes the step. */
-static uint64_t state = SEED;
-
-static uint32_t draw(void)
-{
-    state += UINT64_C(0x9E3779B97F4A7C15);
-    uint64_t z = state;
-    z = (z ^ z >> 30) * UINT64_C(0xBF58476D1CE4E5B9);
-    z = (z ^ z >> 27) * UINT64_C(0x94D049BB133111EB);
-    return (uint32_t)((z ^ z >> 31) >> 32);
-}
-
-static uint32_t draw_below(uint32_t bound)
-{
-    return (uint32_t)((uint64_t)draw() * bound >> 32);
-}
-
 static instruction given_back(jv_word w)
 {
     return instruct(w.command, w.a, w.b, w.c, w.d, w.e);
@@ -205,6 +189,7 @@ static void print_tallies(const tally *read, const tally *written)
 
 void check_random_words(void)
 {
+    start_drawing(SEED);
     printf("%d random words read and %d written from seed 0x%" PRIX64 "\n", ROUNDS, ROUNDS, SEED);
     tally read = check_random_reads();
     tally written = check_random_writes();

@@ -1,7 +1,6 @@
 #include "words.h"
 
 #include <inttypes.h>
-#include <stdio.h>
 
 #include "jokulvisp.h"
 #include "names.h"
@@ -14,48 +13,48 @@ static int64_t signed_value(uint32_t value)
     return value <= INT32_MAX ? (int64_t)value : (int64_t)value - ((int64_t)1 << 32);
 }
 
-static void print_field(const field_names *field, uint32_t value)
+static void print_field(FILE *out, const field_names *field, uint32_t value)
 {
     const char *value_name = field->values != NULL ? find_value_name(field->values, value) : NULL;
     if (value_name != NULL)
-        printf("%s=%s", field->name, value_name);
+        fprintf(out, "%s=%s", field->name, value_name);
     else if (field->is_signed)
-        printf("%s=%" PRId64, field->name, signed_value(value));
+        fprintf(out, "%s=%" PRId64, field->name, signed_value(value));
     else
-        printf("%s=%" PRIu32, field->name, value);
+        fprintf(out, "%s=%" PRIu32, field->name, value);
 }
 
-static void print_meaning(jv_word word)
+static void print_meaning(FILE *out, jv_word word)
 {
     const command_names *names = find_names(word.command);
     const uint32_t values[MOST_FIELDS] = { word.a, word.b, word.c, word.d, word.e };
     if (names == NULL) {
-        printf("command 0x%02" PRIX32, word.command);
+        fprintf(out, "command 0x%02" PRIX32, word.command);
         return;
     }
     /* A command without fields ends its line with its name and no blanks. */
-    printf("%-*s", names->field[0].name != NULL ? NAME_COLUMNS : 0, names->name);
+    fprintf(out, "%-*s", names->field[0].name != NULL ? NAME_COLUMNS : 0, names->name);
     for (unsigned n = 0; n < MOST_FIELDS && names->field[n].name != NULL; n++) {
-        fputs(n == 0 ? "  " : " ", stdout);
-        print_field(&names->field[n], values[n]);
+        fputs(n == 0 ? "  " : " ", out);
+        print_field(out, &names->field[n], values[n]);
     }
 }
 
-static void print_why_no_command(uint32_t bits)
+static void print_why_no_command(FILE *out, uint32_t bits)
 {
     if (bits >> 30 == 3)
-        printf("no command has the top two bits 11");
+        fprintf(out, "no command has the top two bits 11");
     else
-        printf("no command has the top byte 0x%02" PRIX32, bits >> 24);
+        fprintf(out, "no command has the top byte 0x%02" PRIX32, bits >> 24);
 }
 
-static void print_why_no_meaning(const field_names *field, uint32_t value)
+static void print_why_no_meaning(FILE *out, const field_names *field, uint32_t value)
 {
     const value_set *values = field->values;
     if (values->names != NULL)
-        printf("%s %" PRIu32 " is no %s", field->name, value, values->noun);
+        fprintf(out, "%s %" PRIu32 " is no %s", field->name, value, values->noun);
     else
-        printf("%s %s %" PRIu32 " is above %" PRIu32, values->noun, field->name, value, values->most);
+        fprintf(out, "%s %s %" PRIu32 " is above %" PRIu32, values->noun, field->name, value, values->most);
 }
 
 static uint32_t value_in(uint32_t bits, const field_names *field)
@@ -66,7 +65,7 @@ static uint32_t value_in(uint32_t bits, const field_names *field)
 
 /* Names every field of the word whose value has no meaning. The commands that have such fields are known by their top
    byte. */
-static void print_why_no_meanings(uint32_t bits)
+static void print_why_no_meanings(FILE *out, uint32_t bits)
 {
     const command_names *names = find_names(bits >> 24);
     bool is_told = false;
@@ -75,36 +74,40 @@ static void print_why_no_meanings(uint32_t bits)
         if (field->values == NULL || has_meaning(field->values, value_in(bits, field)))
             continue;
         if (is_told)
-            printf("; ");
-        print_why_no_meaning(field, value_in(bits, field));
+            fprintf(out, "; ");
+        print_why_no_meaning(out, field, value_in(bits, field));
         is_told = true;
     }
     if (!is_told)
-        printf("a field has a value without meaning");
+        fprintf(out, "a field has a value without meaning");
 }
 
-static void print_refusal(uint32_t number, uint32_t bits)
+static void print_refusal(FILE *out, uint32_t number, uint32_t bits)
 {
-    printf("refused %-*" PRIu32 "  ", NAME_COLUMNS - 8, number);
+    fprintf(out, "refused %-*" PRIu32 "  ", NAME_COLUMNS - 8, number);
     if (number == JV_NO_COMMAND)
-        print_why_no_command(bits);
+        print_why_no_command(out, bits);
     else
-        print_why_no_meanings(bits);
+        print_why_no_meanings(out, bits);
+}
+
+bool print_word(FILE *out, const display_list *list, size_t offset)
+{
+    uint32_t bits = word_at(list, offset);
+    jv_word word = jv_read_word(bits);
+    fprintf(out, "%4zu  %08" PRIX32 "  ", offset, bits);
+    if (word.number == JV_DONE)
+        print_meaning(out, word);
+    else
+        print_refusal(out, word.number, bits);
+    fputc('\n', out);
+    return word.number == JV_DONE;
 }
 
 bool print_words(const display_list *list)
 {
     bool all_read = true;
-    for (size_t offset = 0; offset < list->length; offset += 4) {
-        uint32_t bits = word_at(list, offset);
-        jv_word word = jv_read_word(bits);
-        printf("%4zu  %08" PRIX32 "  ", offset, bits);
-        if (word.number == JV_DONE)
-            print_meaning(word);
-        else
-            print_refusal(word.number, bits);
-        putchar('\n');
-        all_read = all_read && word.number == JV_DONE;
-    }
+    for (size_t offset = 0; offset < list->length; offset += 4)
+        all_read = print_word(stdout, list, offset) && all_read;
     return all_read;
 }

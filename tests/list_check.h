@@ -1,0 +1,33 @@
+/* jv_check as the tests call it: on copies of what is lent, so that a byte written shows; and how a list and its answer
+   are printed. */
+#ifndef LIST_CHECK_H
+#define LIST_CHECK_H
+
+#include <stdbool.h>
+#include <stdint.h>
+
+#include "jokulvisp.h"
+#include "runner.h"
+
+enum { MOST_LIST_BYTES = 8192, MOST_RAM_G_BYTES = 1048576 };
+
+/* What jv_check gives. RAM_G is a run of that length with bytes that stay the same from one call to the next; it can be
+   one byte longer than is allowed. */
+jv_answer answer_of_library(const run_request *request);
+
+/* Whether every byte that was lent so far came back as it was. */
+bool is_all_as_lent(void);
+
+/* A run's answer as jv_check gives it, and whether it gave that. */
+jv_answer as_answer(run_answer a);
+bool are_equal_answers(jv_answer a, jv_answer b);
+
+void print_answer(const char *before, jv_answer a);
+
+/* The numbers, then the list word by word with the names of commands and fields. */
+void print_request(const run_request *request);
+
+/* A list's words as its bytes. */
+void put_words(uint8_t *bytes, const uint32_t *words, size_t count);
+
+#endif

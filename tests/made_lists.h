@@ -1,0 +1,25 @@
+/* Display lists made up from drawn numbers: most of them such as a screen tool could write, with bitmaps set up and
+   drawn, stretches called, contexts saved and restored; some with one fault in them, some spoilt, some mere noise. */
+#ifndef MADE_LISTS_H
+#define MADE_LISTS_H
+
+#include <stdint.h>
+
+#include "list_check.h"
+#include "runner.h"
+
+typedef enum { WHOLE, WITH_A_FAULT, SPOILT, NOISE, LIST_KINDS } list_kind;
+
+/* Longer than any list may be, so that a list can be too long. */
+enum { MOST_MADE_BYTES = MOST_LIST_BYTES + 16 };
+
+typedef struct {
+    uint8_t bytes[MOST_MADE_BYTES];
+    run_request request; /* its list is `bytes` */
+} made_list;
+
+/* Makes a list of this kind along with frame, RAM_G length and limit. These are allowed ones but for every twentieth
+   or so. */
+void make_list(made_list *made, list_kind kind);
+
+#endif

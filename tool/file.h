@@ -1,0 +1,22 @@
+/* Files of bytes. */
+#ifndef FILE_H
+#define FILE_H
+
+#include <stdbool.h>
+#include <stddef.h>
+#include <stdint.h>
+
+/* Beyond this a stream is not read to its end, for it may have none. */
+enum { MOST_COUNTED_BYTES = 1 << 24 };
+
+/* What to call a file: its name, but '-' is standard input. */
+const char *spoken_name(const char *name);
+
+/* Reads the file of this name, '-' for standard input, as far as there is room, and gives in `length` how many bytes it
+   has, counted no further than MOST_COUNTED_BYTES. If it cannot be read, says so on standard error and gives false. */
+bool read_file(const char *name, uint8_t *bytes, size_t room, size_t *length);
+
+/* Says on standard error how long a file is and how long it may be. */
+void complain_of_length(const char *name, size_t length, const char *allowed);
+
+#endif
