@@ -1,9 +1,10 @@
 -- The context: its starting values, and the values that an action takes from it.
 use lib.IntN.{pos}
-use Rattle.units.specs.Units.{pixelAt, furtherOn, shiftAt}
+use Rattle.units.specs.Units.{pixelAt, shiftAt}
 use Rattle.action.specs.declared.shape.Area.{Area}
 use Rattle.action.specs.declared.ink.Ink.{Ink}
 use Rattle.action.specs.Numbers.{testOf, stencilActionOf, factorOf}
+use Rattle.engine.specs.Handles.{coverOf}
 use Rattle.engine.specs.declared.context.Brush.{Brush}
 use Rattle.engine.specs.declared.context.Context.{Context}
 use Rattle.engine.specs.declared.context.Placing.{Placing}
@@ -60,12 +61,6 @@ inkOf b =
       tag = b .tag;
     }
 
--- the scissor, half open: so many pixels wide and high from its left and top ones on
+-- the scissor: so many pixels wide and high from its left and top ones on
 unfoldable pub scissorOf : Placing → Area
-scissorOf p =
-    record {
-      left = pixelAt (p .left);
-      top = pixelAt (p .top);
-      right = furtherOn (pixelAt (p .left)) (p .width);
-      bottom = furtherOn (pixelAt (p .top)) (p .height);
-    }
+scissorOf p = coverOf (pixelAt (p .left)) (pixelAt (p .top)) (p .width) (p .height)

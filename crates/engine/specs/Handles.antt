@@ -88,10 +88,11 @@ drawable h cell memory =
     (both (leb (cellStart h cell + h .stride * h .rows) memory)
     (aligned h))))))
 
--- 'the top left pixel is the vertex divided by 16, rounded down, and the drawn size is covered'
+-- the pixels from a top left one on, so many wide and high; half open, as scissors are
 unfoldable pub coverOf : Pixels → Pixels → ℕ → ℕ → Area
 coverOf left top width height = record { left = left; top = top; right = furtherOn left width; bottom = furtherOn top height }
 
+-- 'the top left pixel is the vertex divided by 16, rounded down, and the drawn size is covered'
 unfoldable pub bitmapOf : Handle → Vertex → Bitmap
 bitmapOf h v =
     record {

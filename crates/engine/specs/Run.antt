@@ -45,7 +45,7 @@ actionOf c shape = record { scissor = scissorOf (c .placing); masks = c .masks; 
 unfoldable pub wordAt : List ℕ → ℕ → ℕ
 wordAt list at = getD list at 0 + (2 ^ 8 * getD list (at + 1) 0 + (2 ^ 16 * getD list (at + 2) 0 + 2 ^ 24 * getD list (at + 3) 0))
 
--- what lies beside the engine: the list, RAM_G's length; and the state that a step changes
+-- what a step changes; the list and RAM_G's length stay
 pub record State : Type 0 where
   pub engine : Engine
   pub handles : List ℕ

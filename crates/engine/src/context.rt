@@ -1,6 +1,7 @@
 // A context: the values that SAVE_CONTEXT keeps and RESTORE_CONTEXT brings back, each as its command gave it.
 ghost use mathlib.Core.Path.{_≡_};
 ghost use Rattle.engine.specs.Context.{starting, inkOf, scissorOf};
+use crate::handles::cover;
 use action::AlphaTest;
 use action::Area;
 use action::Blend;
@@ -154,15 +155,11 @@ impl Context {
         ensures { λ r. ⌜ r ≡ scissorOf (self .placing) ⌝ }
     {
         let p = self.placing;
-        let left = Pixels::of(p.left);
-        let top = Pixels::of(p.top);
-        let right = left.on(p.width as u64);
-        let bottom = top.on(p.height as u64);
-        Area {
-            left: left,
-            top: top,
-            right: right,
-            bottom: bottom,
-        }
+        cover(
+            Pixels::of(p.left),
+            Pixels::of(p.top),
+            p.width as u64,
+            p.height as u64,
+        )
     }
 }

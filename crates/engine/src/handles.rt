@@ -126,7 +126,7 @@ pub fn handle_at(handles: &[u32; 512], handle: u32) -> Handle
 }
 
 // The pixels from a top left one on, so many wide and high.
-fn cover(left: Pixels, top: Pixels, width: u64, height: u64) -> Area
+pub fn cover(left: Pixels, top: Pixels, width: u64, height: u64) -> Area
     requires { ⌜ ((left .0 < 2 ^ 63) × (top .0 < 2 ^ 63)) × ((width < 2 ^ 63) × (height < 2 ^ 63)) ⌝ }
     ensures { λ r. ⌜ r ≡ coverOf left top width height ⌝ }
 {

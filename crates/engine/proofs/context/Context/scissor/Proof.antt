@@ -1,6 +1,6 @@
 use borrow.Author.Needs.{needs}
 use Rattle.engine.specs.Context.{scissorOf}
-use Rattle.units.proofs.Meaning.{pixels-at, pixels-on}
+use Rattle.units.proofs.Meaning.{pixels-at}
 use Rattle.engine.proofs.context.Context.scissor.Statement.{statement}
 use Rattle.engine.proofs.context.Context.scissor.Tie as tie
 
@@ -10,23 +10,19 @@ of-requires c κs = search needs
 of-requires-2 : tie.Need-of-requires-2
 of-requires-2 c κs = search needs
 
-cast-on : tie.Need-cast-on
-cast-on c = search needs
+cast-cover : tie.Need-cast-cover
+cast-cover c = search needs
 
-on-requires : tie.Need-on-requires
-on-requires c κs = search needs
+cast-cover-2 : tie.Need-cast-cover-2
+cast-cover-2 c = search needs
 
-cast-on-2 : tie.Need-cast-on-2
-cast-on-2 c = search needs
-
-on-requires-2 : tie.Need-on-requires-2
-on-requires-2 c κs = search needs
+cover-requires : tie.Need-cover-requires
+cover-requires c κs = search needs
 
 returns : tie.Need-returns
 unfolding scissorOf
-returns c = rw (pixels-on (c .on2 .ensures), pixels-on (c .before .before .on .ensures), pixels-at (c .before .before .before .before .of2 .ensures), pixels-at (c .before .before .before .before .before .of .ensures))
+returns c = rw (c .cover .ensures, pixels-at (c .before .before .before .of2 .ensures), pixels-at (c .before .before .before .before .of .ensures))
 
 pub scissor-spec : {M : Type 1} → statement M
 scissor-spec =
-    tie.close
-    (tie.spec of-requires of-requires-2 cast-on on-requires cast-on-2 on-requires-2 returns)
+    tie.close (tie.spec of-requires of-requires-2 cast-cover cast-cover-2 cover-requires returns)
