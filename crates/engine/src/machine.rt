@@ -31,7 +31,8 @@ pub struct Corner {
     pub waits: u64,
 }
 
-// `calls` holds the return addresses, newest first, and `depth` how many are open. `primitive` is BEGIN's number, or 0.
+// `calls` holds the return addresses, newest first, and `depth` how many are open. `primitive` is BEGIN's number, 1 for BITMAPS, 2 for POINTS
+// and 9 for RECTS, or 0 while none is begun.
 pub struct Machine {
     pub context: Context,
     pub calls: [u32; 4],
@@ -41,6 +42,7 @@ pub struct Machine {
     pub corner: Corner,
 }
 
+// Which of colour, stencil and tag CLEAR clears.
 pub struct Flags {
     pub colour: u32,
     pub stencil: u32,
@@ -82,7 +84,7 @@ pub struct Obeyed {
     pub then: Then,
 }
 
-// The formats, sizes and primitives of the first build; the others that have a meaning are not drawn yet.
+// The formats of the first build: ARGB1555, L8 and RGB565. The others that have a meaning are not drawn yet.
 fn is_drawn_format(format: u32) -> bool
     ensures { λ r. ⌜ r ≡ drawnFormat format ⌝ }
 {
@@ -94,6 +96,7 @@ fn is_drawn_format(format: u32) -> bool
     }
 }
 
+// Neither filter 1 nor a wrap 1 is drawn yet.
 fn is_drawn_size(filter: u32, wrapx: u32, wrapy: u32) -> bool
     ensures { λ r. ⌜ r ≡ drawnSize filter wrapx wrapy ⌝ }
 {
@@ -106,6 +109,7 @@ fn is_drawn_size(filter: u32, wrapx: u32, wrapy: u32) -> bool
     wrapy == 0
 }
 
+// BITMAPS, POINTS and RECTS.
 fn is_drawn_primitive(primitive: u32) -> bool
     ensures { λ r. ⌜ r ≡ drawnPrimitive primitive ⌝ }
 {
@@ -250,7 +254,7 @@ impl Machine {
         }
     }
 
-    // A call was opened: the place now is the return address.
+    // CALL: the place, which is past the word, is the return address.
     fn call(mut self, to: u32) -> Machine
         requires { ⌜ self .depth < 4 ⌝ }
         ensures { λ r. ⌜ r ≡ called self to ⌝ }
@@ -266,7 +270,7 @@ impl Machine {
         self
     }
 
-    // The newest call was closed.
+    // RETURN: to the newest call's return address.
     fn back(mut self) -> Machine
         requires { ⌜ 0 < self .depth ⌝ }
         ensures { λ r. ⌜ r ≡ returned self ⌝ }
