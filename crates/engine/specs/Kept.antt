@@ -8,8 +8,9 @@ use lib.ListN.{drop, getD, replicate, set}
 use Rattle.engine.specs.declared.context.Context.{Context}
 use Rattle.engine.specs.declared.kept.Engine.{Engine}
 use Rattle.engine.specs.declared.kept.Kept.{Kept}
+use Rattle.engine.specs.Changes.{withContext}
 use Rattle.engine.specs.Context.{starting}
-use Rattle.engine.specs.Machine.{started, withContext}
+use Rattle.engine.specs.Machine.{started}
 
 unfoldable pub keptWith : Kept → Context → Kept
 keptWith k c =

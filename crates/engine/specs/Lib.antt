@@ -1,3 +1,4 @@
+pub mod Changes
 pub mod Context
 pub mod Handles
 pub mod Machine

@@ -24,9 +24,10 @@ use Rattle.engine.specs.declared.machine.Flags.{Flags}
 use Rattle.engine.specs.declared.machine.Machine.{Machine}
 use Rattle.engine.specs.declared.machine.Shape.{Shape}
 use Rattle.engine.specs.declared.machine.Shape.the-variants as s
+use Rattle.engine.specs.Changes.{withPlace}
 use Rattle.engine.specs.Context.{inkOf, scissorOf}
 use Rattle.engine.specs.Kept.{begun, pushed, popped}
-use Rattle.engine.specs.Machine.{Steps, steps, withPlace}
+use Rattle.engine.specs.Machine.{Steps, steps}
 
 -- AN ACTION: a shape, with the context's values that document 01 lists under 'An action's values'
 abbrev pub clearOf : Context → Flags → Clear

@@ -12,9 +12,9 @@ use Rattle.engine.specs.declared.context.Context.{Context}
 use Rattle.engine.specs.declared.kept.Engine.{Engine}
 use Rattle.engine.specs.declared.kept.Kept.{Kept}
 use Rattle.engine.specs.declared.machine.Machine.{Machine}
+use Rattle.engine.specs.Changes.{withPlace}
 use Rattle.engine.specs.Context.{starting}
 use Rattle.engine.specs.Kept.{keptWith, newest, dropped, begun, pushed, popped}
-use Rattle.engine.specs.Machine.{withPlace}
 use Rattle.engine.specs.Run.{State, placeOf, wordAt, nextOf}
 
 -- the kept contexts, newest first: those of the array that are counted, the other way round
