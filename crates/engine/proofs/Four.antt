@@ -3,7 +3,7 @@ use mathlib.Core.Path.{_≡_, refl, sym, _∙_}
 use Prim.Native.Nat.{ℕ, zero, suc, _<_}
 use mathlib.Core.List.{List, [], _∷_, _++_, map}
 use native.Mathlib.Omega.{arith}
-use lib.ListN.{length, length-map, take, drop, getD}
+use lib.ListN.{length, length-map, take, drop, getD, set}
 
 pub long : {A B : Type 0} (f : A → B) (l : List A) (n : ℕ) → length (map f l) ≡ n → length l ≡ n
 long f l n e = sym (length-map l f) ∙ e
@@ -22,6 +22,14 @@ module _ {A : Type 0} (d : A) where
   shift-in x (a ∷ b ∷ []) h = absurd (omega arith)
   shift-in x (a ∷ b ∷ c ∷ []) h = absurd (omega arith)
   shift-in x (a ∷ b ∷ c ∷ e ∷ f ∷ l) h = absurd (omega arith)
+
+  pub shift-set : (x : A) (l : List A) → length l ≡ 4 → set (set (set (set l 0 (getD l 1 d)) 1 (getD l 2 d)) 2 (getD l 3 d)) 3 x ≡ drop 1 l ++ (x ∷ [])
+  shift-set x (a ∷ b ∷ c ∷ e ∷ []) h = refl
+  shift-set x [] h = absurd (omega arith)
+  shift-set x (a ∷ []) h = absurd (omega arith)
+  shift-set x (a ∷ b ∷ []) h = absurd (omega arith)
+  shift-set x (a ∷ b ∷ c ∷ []) h = absurd (omega arith)
+  shift-set x (a ∷ b ∷ c ∷ e ∷ f ∷ l) h = absurd (omega arith)
 
   pub shift-out : (x : A) (l : List A) → length l ≡ 4 → getD l 1 d ∷ getD l 2 d ∷ getD l 3 d ∷ x ∷ [] ≡ drop 1 l ++ (x ∷ [])
   shift-out x (a ∷ b ∷ c ∷ e ∷ []) h = refl

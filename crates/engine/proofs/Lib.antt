@@ -2,5 +2,6 @@ mod Endings
 pub mod Examples
 mod Four
 mod Judging
+mod Keeping
 pub mod Saves
 mod Turns

@@ -2,10 +2,10 @@
 -- 'Numbers 10 to 19 carry the byte offset of the word (for 10 and 19, the one that would be next). Words fetched are counted, the faulting
 -- one included'.
 use mathlib.Core.Path.{_≡_}
-use mathlib.Core.Bool.{Bool, true, false, cond}
+use mathlib.Core.Bool.{Bool, true, false, cond, _&&_}
 use mathlib.Core.List.{List, [], _∷_}
 use Prim.Native.Nat.{ℕ, zero, suc, _+_, _-_, _*_, _<_, _≤_, _^_}
-use lib.Dec.{ltb}
+use lib.Dec.{ltb, leb}
 use lib.ListN.{getD, length, replicate}
 use Rattle.action.specs.declared.Action.{Action}
 use Rattle.action.specs.declared.ink.Clear.{Clear}
@@ -126,6 +126,10 @@ more k r = record { actions = r .actions; number = r .number; place = r .place; 
 unfoldable pub then : ℕ → Find → Ran → Ran
 then k (f.Drew action) rest = acted action (more k rest)
 then k (f.Over number place) rest = stopped number place k
+
+-- a context is kept
+unfoldable pub isKept : ℕ → Bool
+isKept count = ltb 0 count && leb count 4
 
 abbrev pub found : Machine → Kept → ℕ → Find → Advanced
 found now kept left find = record { engine = record { now = now; kept = kept }; left = left; find = find }

@@ -1,6 +1,6 @@
 // The engine: the machine and the contexts that it keeps, oldest first.
 ghost use mathlib.Core.Path.{_≡_};
-ghost use Rattle.engine.specs.Kept.{keptWith, newest, dropped, begun, pushed, popped};
+ghost use Rattle.engine.specs.Kept.{keptWith, dropped, begun};
 use crate::context::Context;
 use crate::machine::Machine;
 
@@ -15,40 +15,43 @@ pub struct Engine {
 }
 
 impl Kept {
-    // A fifth save drops the earliest.
-    fn push(mut self, context: Context) -> Kept
+    // SAVE_CONTEXT. A fifth save drops the earliest. Each place is written by its own number, so that the others stay where they are.
+    pub fn push(mut self, context: Context) -> Kept
         ensures { λ r. ⌜ r ≡ keptWith self context ⌝ }
     {
         let count = self.count;
-        if count < 4 {
-            self.contexts[count] = context;
-            self.count = count + 1;
-        } else {
-            let second = self.contexts[1];
-            let third = self.contexts[2];
-            let fourth = self.contexts[3];
-            let contexts = [second, third, fourth, context];
-            self.contexts = contexts;
+        match count {
+            0 => {
+                self.contexts[0] = context;
+                self.count = 1;
+            }
+            1 => {
+                self.contexts[1] = context;
+                self.count = 2;
+            }
+            2 => {
+                self.contexts[2] = context;
+                self.count = 3;
+            }
+            3 => {
+                self.contexts[3] = context;
+                self.count = 4;
+            }
+            _ => {
+                let second = self.contexts[1];
+                let third = self.contexts[2];
+                let fourth = self.contexts[3];
+                self.contexts[0] = second;
+                self.contexts[1] = third;
+                self.contexts[2] = fourth;
+                self.contexts[3] = context;
+            }
         }
         self
     }
 
-    // The context that a restore loads: with none kept, the starting values.
-    fn top(self) -> Context
-        ensures { λ r. ⌜ r ≡ newest self ⌝ }
-    {
-        let count = self.count;
-        if count == 0 {
-            return Context::start();
-        }
-        if 4 < count {
-            return Context::start();
-        }
-        let last = count - 1;
-        self.contexts[last]
-    }
-
-    fn pop(mut self) -> Kept
+    // RESTORE_CONTEXT: the newest context, which is loaded, is kept no longer.
+    pub fn pop(mut self) -> Kept
         ensures { λ r. ⌜ r ≡ dropped self ⌝ }
     {
         let count = self.count;
@@ -70,35 +73,6 @@ impl Engine {
             count: 0,
         };
         let now = Machine::start();
-        Engine {
-            now: now,
-            kept: kept,
-        }
-    }
-
-    // SAVE_CONTEXT.
-    pub fn push(self) -> Engine
-        ensures { λ r. ⌜ r ≡ pushed self ⌝ }
-    {
-        let now = self.now;
-        let before = self.kept;
-        let context = now.context;
-        let kept = before.push(context);
-        Engine {
-            now: now,
-            kept: kept,
-        }
-    }
-
-    // RESTORE_CONTEXT.
-    pub fn pop(self) -> Engine
-        ensures { λ r. ⌜ r ≡ popped self ⌝ }
-    {
-        let mut now = self.now;
-        let before = self.kept;
-        let context = before.top();
-        let kept = before.pop();
-        now.context = context;
         Engine {
             now: now,
             kept: kept,

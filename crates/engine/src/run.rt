@@ -2,7 +2,7 @@
 ghost use mathlib.Core.Path.{_≡_};
 ghost use Prim.Native.Nat.{_≤_, _<_, _+_, _^_};
 ghost use lib.ListN.{getD, length};
-ghost use Rattle.engine.specs.Run.{clearOf, drawingOf, actionOf, wordAt, found, Advances, atStart, endingOf, run as ran};
+ghost use Rattle.engine.specs.Run.{clearOf, drawingOf, actionOf, wordAt, isKept, found, Advances, atStart, endingOf, run as ran};
 use crate::context::Context;
 use crate::kept::Engine;
 use crate::kept::Kept;
@@ -131,6 +131,13 @@ fn drew(now: Machine, kept: Kept, left: u32, shape: Shape) -> Advanced
     }
 }
 
+// Whether a context is kept that a restore can load.
+fn is_kept(count: usize) -> bool
+    ensures { λ r. ⌜ r ≡ isKept count ⌝ }
+{
+    (0 < count) & (count <= 4)
+}
+
 // Goes on from an engine, with so many words allowed: to the next action if `halt` is set, else to the list's end or the
 // fault. The machine and the kept contexts are held apart, since few words touch the latter.
 pub fn advance(
@@ -162,25 +169,21 @@ pub fn advance(
         match event {
             Event::Quiet => {}
             Event::Save => {
-                let engine = Engine {
-                    now: now,
-                    kept: kept,
-                };
-                let saved = engine.push();
-                let after = saved.now;
-                let more = saved.kept;
-                now = after;
+                let context = now.context;
+                let more = kept.push(context);
                 kept = more;
             }
             Event::Restore => {
-                let engine = Engine {
-                    now: now,
-                    kept: kept,
-                };
-                let restored = engine.pop();
-                let after = restored.now;
-                let fewer = restored.kept;
-                now = after;
+                let count = kept.count;
+                if is_kept(count) {
+                    let last = count - 1;
+                    let newest = kept.contexts[last];
+                    now.context = newest;
+                } else {
+                    let first = Context::start();
+                    now.context = first;
+                }
+                let fewer = kept.pop();
                 kept = fewer;
             }
             Event::Draw(shape) => {
