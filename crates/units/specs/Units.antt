@@ -69,6 +69,10 @@ sampled p = record { 0 = 16 * p .0 }
 abbrev pub spaced : Sixteenths → Sixteenths → ℕ
 spaced a b = (a .0 - b .0) + (b .0 - a .0)
 
+-- how many of the screen's first columns, or rows, lie before a pixel: column x does exactly if x is below this number
+abbrev pub countBefore : ℕ → Pixels → ℕ
+countBefore count p = count - (count - (p .0 - displacement))
+
 -- the one of two positions that is further up or left, and the one that is further down or right; the first, where they are the same
 unfoldable pub leastOf : Sixteenths → Sixteenths → Sixteenths
 leastOf a b = cond (ltb (b .0) (a .0)) b a

@@ -4,7 +4,7 @@
 ghost use mathlib.Core.Path.{_≡_};
 ghost use Prim.Native.Nat.{_<_, _≤_, _^_};
 ghost use lib.IntN.{pos, _*ℤ_};
-ghost use Rattle.units.specs.Units.{PixelOf, FurtherOn, SixteenthOf, MovedBy, Movable, ShiftOf, meantShift, Holds, SampledAt, ApartBy, leastOf, mostOf};
+ghost use Rattle.units.specs.Units.{PixelOf, FurtherOn, SixteenthOf, MovedBy, Movable, ShiftOf, meantShift, Holds, SampledAt, countBefore, ApartBy, leastOf, mostOf};
 
 const DISPLACEMENT: u64 = 0x10_0000_0000;
 
@@ -37,6 +37,20 @@ impl Pixels {
         ensures { λ r. ⌜ FurtherOn count self r ⌝ }
     {
         Pixels(self.0 + count)
+    }
+
+    // How many of the screen's first columns, or rows, lie before the pixel.
+    pub fn before(self, count: u32) -> u32
+        ensures { λ r. ⌜ r ≡ countBefore count self ⌝ }
+    {
+        if self.0 < DISPLACEMENT {
+            return 0;
+        }
+        let n = self.0 - DISPLACEMENT;
+        if n < count as u64 {
+            return n as u32;
+        }
+        count
     }
 
     // The position at which the pixel is sampled.

@@ -1,0 +1,53 @@
+-- The drawing actions of a list as the painter keeps them. No sentence of document 01 stands behind these contracts: they say that the actions read
+-- back are those of the run.
+use mathlib.Core.Bool.{true}
+use mathlib.Core.List.{List, [], _∷_, _++_}
+use mathlib.Core.Path.{_≡_}
+use Prim.Native.Nat.{ℕ, zero, suc, _+_, _*_, _<_, _≤_}
+use lib.ListN.{length, getD}
+use Rattle.action.specs.declared.Action.{Action}
+use Rattle.engine.specs.Run.{run, atStart}
+use Rattle.shape.specs.Cover.{reaches}
+use Rattle.store.specs.Store.{keptAt}
+use Rattle.units.specs.Units.{pixelAt}
+use Rattle.paint.specs.declared.kept.Gathered.{Gathered}
+use Rattle.paint.specs.Picture.{outlineOf}
+
+-- how many actions there is room for
+abbrev pub most : ℕ
+most = 1024
+
+-- the first so many actions that are kept
+unfoldable pub keptUpTo : List ℕ → List ℕ → ℕ → List Action
+keptUpTo numbers places zero = []
+keptUpTo numbers places (suc n) = keptUpTo numbers places n ++ (keptAt numbers places n ∷ [])
+
+-- the action reaches no row of a frame outside of the band
+abbrev pub Bands : Action → ℕ → ℕ → Type 0
+Bands action top bottom =
+    (x y : ℕ) → x < 800 → y < 600 → reaches (outlineOf (action .drawing)) (action .scissor) (pixelAt x) (pixelAt y) ≡ true → (top ≤ y) × (y < bottom)
+
+-- the k-th kept action has its band in the k-th pair of numbers
+abbrev pub BandAt : List ℕ → List ℕ → List ℕ → ℕ → Type 0
+BandAt numbers places bands k = Bands (keptAt numbers places k) (getD bands (2 * k) 0) (getD bands (2 * k + 1) 0)
+
+abbrev pub AllBands : List ℕ → List ℕ → List ℕ → ℕ → Type 0
+AllBands numbers places bands count = (k : ℕ) → k < count → BandAt numbers places bands k
+
+-- the room for them
+abbrev pub Rooms : List ℕ → List ℕ → List ℕ → Type 0
+Rooms numbers places bands = (length numbers ≡ 25 * most) × ((length places ≡ 8 * most) × (length bands ≡ 2 * most))
+
+-- an action is kept as the k-th with its band, and those before it stay
+pub record Keeps (action : Action) (k : ℕ) (numbers places bands numbers′ places′ bands′ : List ℕ) : Type 0 where
+  pub kept : keptAt numbers′ places′ k ≡ action
+  pub others : (j : ℕ) → j < k → keptAt numbers′ places′ j ≡ keptAt numbers places j
+  pub banded : BandAt numbers′ places′ bands′ k
+  pub otherBands : (j : ℕ) → j < 2 * k → getD bands′ j 0 ≡ getD bands j 0
+
+-- where there was room for all actions of the list, those that are kept are they
+pub record Gathers (list : List ℕ) (memory limit : ℕ) (g : Gathered) (numbers places bands : List ℕ) : Type 0 where
+  pub whole : g .all ≡ true → run list memory limit atStart .actions ≡ keptUpTo numbers places (g .count)
+  pub banded : AllBands numbers places bands (g .count)
+  pub room : g .count ≤ most
+  pub rooms : Rooms numbers places bands

@@ -1,0 +1,3 @@
+pub mod Actions
+pub mod Picture
+pub mod Runs

@@ -1,0 +1,6 @@
+pub mod Bools
+pub mod Columns
+pub mod Meaning
+mod Order
+pub mod Reaching
+pub mod Squares

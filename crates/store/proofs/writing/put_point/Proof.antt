@@ -1,0 +1,37 @@
+use mathlib.Core.Path.{refl}
+use borrow.Author.Needs.{needs}
+use Rattle.store.proofs.writing.put_point.Statement.{statement}
+use Rattle.store.proofs.writing.put_point.Tie as tie
+
+put-ink-requires : tie.Need-put-ink-requires
+put-ink-requires c κs = search needs
+
+slice-write-numbers : tie.Need-slice-write-numbers
+slice-write-numbers c = search needs
+
+slice-write-places : tie.Need-slice-write-places
+slice-write-places c = search needs
+
+slice-write-places-2 : tie.Need-slice-write-places-2
+slice-write-places-2 c = search needs
+
+same-length : tie.Need-same-length
+same-length c = search needs
+
+same-length-2 : tie.Need-same-length-2
+same-length-2 c = search needs
+
+returns : tie.Need-returns
+returns c = (rw (c .before .before .put-ink .ensures), refl)
+
+pub put-point-spec : {M : Type 1} → statement M
+put-point-spec =
+    tie.close
+    (tie.spec
+    put-ink-requires
+    slice-write-numbers
+    slice-write-places
+    slice-write-places-2
+    same-length
+    same-length-2
+    returns)
