@@ -4,18 +4,25 @@ use mathlib.Core.Bool.{Bool, true, cond}
 use mathlib.Core.List.{List}
 use mathlib.Core.Logic.{_⊎_}
 use mathlib.Core.Path.{_≡_}
-use Prim.Native.Nat.{ℕ, _+_, _*_, _<_, _≤_}
+use Prim.Native.Nat.{ℕ, _+_, _-_, _*_, _<_, _≤_}
 use lib.ListN.{length, getD}
 use Rattle.action.specs.declared.Action.{Action}
 use Rattle.action.specs.declared.Drawing.{Drawing}
+use Rattle.action.specs.declared.ink.Colour.{Colour}
+use Rattle.action.specs.declared.ink.Ink.{Ink}
 use Rattle.action.specs.declared.ink.Masks.{Masks}
 use Rattle.pixel.specs.declared.Pixel.{Pixel}
 use Rattle.pixel.specs.declared.plain.Plain.{Plain}
+use Rattle.pixel.specs.Blend.{white}
+use Rattle.pixel.specs.Pixel.{painted}
 use Rattle.pixel.specs.Plain.{PlainBy}
+use Rattle.texel.specs.Texel.{texelAt}
 use Rattle.shape.specs.declared.Chord.{Chord}
 use Rattle.shape.specs.OneRow.{holdsIn}
 use Rattle.units.specs.declared.Pixels.{Pixels}
 use Rattle.units.specs.Units.{pixelAt}
+use Rattle.paint.specs.declared.row.Texture.{Texture}
+use Rattle.paint.specs.declared.row.Texture.the-variants as t
 use Rattle.paint.specs.Picture.{changed, drawnAt, drawnBy}
 
 -- 'three bytes R G B a pixel and one tag byte in a second run. Work rows hold alpha and stencil'
@@ -52,6 +59,14 @@ held chord step x before = cond (holdsIn chord (pixelAt x)) (step x before) befo
 -- what a drawing makes of a pixel of row q
 abbrev pub change : List ℕ → Masks → Drawing → Pixels → ℕ → Pixel → Pixel
 change memory masks drawing q x before = changed memory masks drawing (pixelAt x) q before
+
+-- the texel of column p and row q, and what a brush makes of a pixel of row q with it
+unfoldable pub texelIn : Texture → List ℕ → Pixels → Pixels → Colour
+texelIn t.White memory p q = white
+texelIn (t.Of bitmap) memory p q = texelAt bitmap (p .0 - bitmap .area .left .0) (q .0 - bitmap .area .top .0) memory
+
+abbrev pub inked : List ℕ → Masks → Ink → Texture → Pixels → ℕ → Pixel → Pixel
+inked memory masks ink texture q x before = painted ink masks (texelIn texture memory (pixelAt x) q) before
 
 -- a drawing that does the same to every pixel that it covers
 abbrev pub PlainDrawing : Masks → Drawing → Plain → Type 0

@@ -292,9 +292,9 @@ pub fn paint_rows(
     ensures { λ _. ⌜ now (picture .exit) ≡ coloursFrom (now (memory .entry)) (run (now (list .entry)) (length (now (memory .entry))) limit atStart .actions) width first count ⌝ }
     ensures { λ _. ⌜ now (tags .exit) ≡ tagsFrom (now (memory .entry)) (run (now (list .entry)) (length (now (memory .entry))) limit atStart .actions) width first count ⌝ }
 {
-    let mut numbers = [0; 25600];
-    let mut places = [0; 8192];
-    let mut bands = [0; 2048];
+    let mut numbers = [0; store::NUMBERS * kept::MOST];
+    let mut places = [0; store::PLACES * kept::MOST];
+    let mut bands = [0; 2 * kept::MOST];
     let gathered = kept::gather(
         list,
         memory.len() as u32,

@@ -3,12 +3,16 @@
 ghost use mathlib.Core.Path.{_≡_};
 ghost use Prim.Native.Nat.{ℕ, _<_, _≤_, _-_, _^_};
 ghost use Rattle.pixel.specs.Plain.{filled};
-ghost use Rattle.paint.specs.Picture.{isAny, outlineOf, changed};
-ghost use Rattle.paint.specs.Runs.{Lent, Swept, Touched, PlainDrawing, Drawn, change, held, pixelIn};
+ghost use Rattle.pixel.specs.Pixel.{cleared};
+ghost use Rattle.paint.specs.Picture.{isAny, outlineOf};
+ghost use Rattle.paint.specs.Runs.{Lent, Swept, Touched, PlainDrawing, Drawn, change, held, inked, pixelIn, texelIn};
 use crate::point;
 use action::Action;
+use action::Bitmap;
 use action::Clear;
+use action::Colour;
 use action::Drawing;
+use action::Ink;
 use action::Masks;
 use pixel::Fill;
 use pixel::Pixel;
@@ -16,6 +20,12 @@ use pixel::Plain;
 use shape::Chord;
 use shape::Outline;
 use units::Pixels;
+
+// Where the texels of a drawing come from.
+pub enum Texture {
+    White,
+    Of(Bitmap),
+}
 
 fn is_any(clear: Clear) -> bool
     ensures { λ r. ⌜ r ≡ isAny clear ⌝ }
@@ -59,27 +69,16 @@ fn less(a: u64, b: u64) -> u64
     if b < a { a - b } else { 0 }
 }
 
-// What the drawing makes of the pixel at column p and row q.
-fn change_pixel(
-    drawing: Drawing,
-    masks: Masks,
-    p: Pixels,
-    q: Pixels,
-    memory: &[u8],
-    before: Pixel,
-) -> Pixel
-    ensures { λ r. ⌜ r ≡ changed (now (memory .entry)) masks drawing p q before ⌝ }
+fn texel_at(texture: Texture, p: Pixels, q: Pixels, memory: &[u8]) -> Colour
+    ensures { λ r. ⌜ r ≡ texelIn texture (now (memory .entry)) p q ⌝ }
 {
-    match drawing {
-        Drawing::Clear(clear) => pixel::clear(clear, masks, before),
-        Drawing::Point(_, ink) => pixel::paint(ink, masks, pixel::white(), before),
-        Drawing::Rectangle(_, ink) => pixel::paint(ink, masks, pixel::white(), before),
-        Drawing::Bitmap(bitmap, ink) => {
+    match texture {
+        Texture::White => pixel::white(),
+        Texture::Of(bitmap) => {
             let area = bitmap.area;
             let column = less(p.0, area.left.0);
             let line = less(q.0, area.top.0);
-            let texel = texel::texel(bitmap, column, line, memory);
-            pixel::paint(ink, masks, texel, before)
+            texel::texel(bitmap, column, line, memory)
         }
     }
 }
@@ -143,10 +142,54 @@ fn fill_columns(
     }
 }
 
-fn draw_column(
+fn clear_column(
     x: usize,
     chord: Chord,
-    drawing: Drawing,
+    clear: Clear,
+    masks: Masks,
+    width: usize,
+    picture: &mut [u8],
+    tags: &mut [u8],
+    alpha: &mut [u8],
+    stencil: &mut [u8],
+)
+    requires { ⌜ (x < width) × Lent width (now picture) (now tags) (now alpha) (now stencil) ⌝ }
+    ensures { λ _. ⌜ Touched x (held chord (λ _. cleared clear masks) x) (pixelIn (now (picture .entry)) (now (tags .entry)) (now (alpha .entry)) (now (stencil .entry))) (pixelIn (now (picture .exit)) (now (tags .exit)) (now (alpha .exit)) (now (stencil .exit))) ⌝ }
+{
+    if chord.holds(Pixels::of(x as u32)) {
+        let before = point::read(x, width, picture, tags, alpha, stencil);
+        let after = pixel::clear(clear, masks, before);
+        point::write(x, after, width, picture, tags, alpha, stencil);
+    }
+}
+
+fn clear_columns(
+    from: usize,
+    to: usize,
+    chord: Chord,
+    clear: Clear,
+    masks: Masks,
+    width: usize,
+    picture: &mut [u8],
+    tags: &mut [u8],
+    alpha: &mut [u8],
+    stencil: &mut [u8],
+)
+    requires { ⌜ (to ≤ width) × Lent width (now picture) (now tags) (now alpha) (now stencil) ⌝ }
+    ensures { λ _. ⌜ Swept from to (held chord (λ _. cleared clear masks)) (pixelIn (now (picture .entry)) (now (tags .entry)) (now (alpha .entry)) (now (stencil .entry))) (pixelIn (now (picture .exit)) (now (tags .exit)) (now (alpha .exit)) (now (stencil .exit))) ⌝ }
+{
+    let mut x = from;
+    while x < to {
+        clear_column(x, chord, clear, masks, width, picture, tags, alpha, stencil);
+        x += 1;
+    }
+}
+
+fn ink_column(
+    x: usize,
+    chord: Chord,
+    texture: Texture,
+    ink: Ink,
     masks: Masks,
     q: Pixels,
     memory: &[u8],
@@ -157,16 +200,56 @@ fn draw_column(
     stencil: &mut [u8],
 )
     requires { ⌜ (x < width) × Lent width (now picture) (now tags) (now alpha) (now stencil) ⌝ }
-    ensures { λ _. ⌜ Touched x (held chord (change (now (memory .entry)) masks drawing q) x) (pixelIn (now (picture .entry)) (now (tags .entry)) (now (alpha .entry)) (now (stencil .entry))) (pixelIn (now (picture .exit)) (now (tags .exit)) (now (alpha .exit)) (now (stencil .exit))) ⌝ }
+    ensures { λ _. ⌜ Touched x (held chord (inked (now (memory .entry)) masks ink texture q) x) (pixelIn (now (picture .entry)) (now (tags .entry)) (now (alpha .entry)) (now (stencil .entry))) (pixelIn (now (picture .exit)) (now (tags .exit)) (now (alpha .exit)) (now (stencil .exit))) ⌝ }
 {
     let p = Pixels::of(x as u32);
     if chord.holds(p) {
+        let texel = texel_at(texture, p, q, memory);
         let before = point::read(x, width, picture, tags, alpha, stencil);
-        let after = change_pixel(drawing, masks, p, q, memory, before);
+        let after = pixel::paint(ink, masks, texel, before);
         point::write(x, after, width, picture, tags, alpha, stencil);
     }
 }
 
+fn ink_columns(
+    from: usize,
+    to: usize,
+    chord: Chord,
+    texture: Texture,
+    ink: Ink,
+    masks: Masks,
+    q: Pixels,
+    memory: &[u8],
+    width: usize,
+    picture: &mut [u8],
+    tags: &mut [u8],
+    alpha: &mut [u8],
+    stencil: &mut [u8],
+)
+    requires { ⌜ (to ≤ width) × Lent width (now picture) (now tags) (now alpha) (now stencil) ⌝ }
+    ensures { λ _. ⌜ Swept from to (held chord (inked (now (memory .entry)) masks ink texture q)) (pixelIn (now (picture .entry)) (now (tags .entry)) (now (alpha .entry)) (now (stencil .entry))) (pixelIn (now (picture .exit)) (now (tags .exit)) (now (alpha .exit)) (now (stencil .exit))) ⌝ }
+{
+    let mut x = from;
+    while x < to {
+        ink_column(
+            x,
+            chord,
+            texture,
+            ink,
+            masks,
+            q,
+            memory,
+            width,
+            picture,
+            tags,
+            alpha,
+            stencil,
+        );
+        x += 1;
+    }
+}
+
+// Each column that is held, by the pixel before.
 fn draw_columns(
     from: usize,
     to: usize,
@@ -184,22 +267,72 @@ fn draw_columns(
     requires { ⌜ (to ≤ width) × Lent width (now picture) (now tags) (now alpha) (now stencil) ⌝ }
     ensures { λ _. ⌜ Swept from to (held chord (change (now (memory .entry)) masks drawing q)) (pixelIn (now (picture .entry)) (now (tags .entry)) (now (alpha .entry)) (now (stencil .entry))) (pixelIn (now (picture .exit)) (now (tags .exit)) (now (alpha .exit)) (now (stencil .exit))) ⌝ }
 {
-    let mut x = from;
-    while x < to {
-        draw_column(
-            x,
-            chord,
-            drawing,
-            masks,
-            q,
-            memory,
-            width,
-            picture,
-            tags,
-            alpha,
-            stencil,
-        );
-        x += 1;
+    match drawing {
+        Drawing::Clear(clear) => {
+            clear_columns(
+                from,
+                to,
+                chord,
+                clear,
+                masks,
+                width,
+                picture,
+                tags,
+                alpha,
+                stencil,
+            );
+        }
+        Drawing::Point(_, ink) => {
+            ink_columns(
+                from,
+                to,
+                chord,
+                Texture::White,
+                ink,
+                masks,
+                q,
+                memory,
+                width,
+                picture,
+                tags,
+                alpha,
+                stencil,
+            );
+        }
+        Drawing::Rectangle(_, ink) => {
+            ink_columns(
+                from,
+                to,
+                chord,
+                Texture::White,
+                ink,
+                masks,
+                q,
+                memory,
+                width,
+                picture,
+                tags,
+                alpha,
+                stencil,
+            );
+        }
+        Drawing::Bitmap(bitmap, ink) => {
+            ink_columns(
+                from,
+                to,
+                chord,
+                Texture::Of(bitmap),
+                ink,
+                masks,
+                q,
+                memory,
+                width,
+                picture,
+                tags,
+                alpha,
+                stencil,
+            );
+        }
     }
 }
 

@@ -1,59 +1,126 @@
-use Prim.Native.Nat.{_-_}
-use Rattle.paint.proofs.Sweeps.{Sweeps, still-there, sweeps-all, sweeps-more, sweeps-none}
 use Rattle.paint.proofs.row.draw_columns.Statement.{statement}
-use Rattle.paint.specs.Runs.{change, held}
-use native.Mathlib.Omega.{arith}
+use Rattle.paint.specs.Picture.{changed}
+use Rattle.paint.specs.Runs.{texelIn}
+use borrow.Author.Needs.{needs}
 use Rattle.paint.proofs.row.draw_columns.Tie as tie
 
-abbrev Inv-loop : tie.InvT-loop
-Inv-loop from to chord drawing masks q memory width picture₀ tags₀ alpha₀ stencil₀ x₀ picture tags alpha stencil x = Sweeps from to (held chord (change memory masks drawing q)) picture₀ tags₀ alpha₀ stencil₀ picture tags alpha stencil x
+enum-known-drawing : tie.Need-enum-known-drawing
+enum-known-drawing c = search needs
 
-abbrev μ-loop : tie.MeasureT-loop
-μ-loop from to chord drawing masks q memory width picture₀ tags₀ alpha₀ stencil₀ x₀ picture tags alpha stencil x = to - x
+clear-columns-requires : tie.Need-clear-columns-requires
+clear-columns-requires c κs = search needs
 
-loop-holds : tie.Need-loop-holds Inv-loop μ-loop
-loop-holds c = sweeps-none _ _ _ _ _ _ _
+enum-known-drawing-2 : tie.Need-enum-known-drawing-2
+enum-known-drawing-2 c = search needs
 
-draw-column-requires : tie.Need-draw-column-requires Inv-loop μ-loop
-draw-column-requires c κs = (omega (arith, c .before .before .before .before .loop-test .taken, c .before .before .before .before .before .before .before .before .before .before .before .pre .0), still-there (c .before .before .before .before .before .loop .inv .long) _ (c .before .before .before .before .before .before .before .before .before .before .before .pre .1))
+ink-columns-requires : tie.Need-ink-columns-requires
+ink-columns-requires c κs = search needs
 
-add-x : tie.Need-add-x Inv-loop μ-loop
-add-x c = omega (arith, c .before .before .before .before .before .before .before .before .before .before .before .before .before .loop-test .taken, c .before .before .before .before .before .before .before .before .before .before .before .before .before .before .before .before .before .before .before .before .pre, c .before .before .before .before .before .before .before .before .before .before .before .before .before .before .before .before .before .before .before .before .fits)
+enum-known-drawing-3 : tie.Need-enum-known-drawing-3
+enum-known-drawing-3 c = search needs
 
-loop-less : tie.Need-loop-less Inv-loop μ-loop
-loop-less c = omega (arith, c .before .before .before .before .before .before .before .before .before .before .before .before .before .loop-test .taken)
+ink-columns-requires-2 : tie.Need-ink-columns-requires-2
+ink-columns-requires-2 c κs = search needs
 
-loop-again : tie.Need-loop-again Inv-loop μ-loop
-loop-again c = let k = c .before .before .before .before .before .before .before .before .draw-column .kept .1 .1 .1 .1 .1 .1 .1 in sweeps-more _ _ _ _ _ _ _ (c .before .before .before .before .before .before .before .before .before .before .before .before .before .before .loop .inv) _ _ _ _ (c .before .before .before .before .before .before .before .before .before .before .before .before .before .loop-test .taken) (k .0) (k .1 .0) (k .1 .1 .0) (k .1 .1 .1 .0) (c .before .before .before .before .before .before .before .before .draw-column .ensures)
+enum-known-drawing-4 : tie.Need-enum-known-drawing-4
+enum-known-drawing-4 c = search needs
 
-same-length : tie.Need-same-length Inv-loop μ-loop
-same-length c = c .before .loop .inv .long .pictures
+ink-columns-requires-3 : tie.Need-ink-columns-requires-3
+ink-columns-requires-3 c κs = search needs
 
-same-length-2 : tie.Need-same-length-2 Inv-loop μ-loop
-same-length-2 c = c .before .loop .inv .long .tagged
+same-length : tie.Need-same-length
+same-length c = search needs
 
-same-length-3 : tie.Need-same-length-3 Inv-loop μ-loop
-same-length-3 c = c .before .loop .inv .long .alphas
+same-length-2 : tie.Need-same-length-2
+same-length-2 c = search needs
 
-same-length-4 : tie.Need-same-length-4 Inv-loop μ-loop
-same-length-4 c = c .before .loop .inv .long .stencils
+same-length-3 : tie.Need-same-length-3
+same-length-3 c = search needs
 
-returns : tie.Need-returns Inv-loop μ-loop
-returns c = sweeps-all _ _ _ _ _ _ _ (c .before .loop .inv) (c .loop-test .left)
+same-length-4 : tie.Need-same-length-4
+same-length-4 c = search needs
+
+returns : tie.Need-returns
+unfolding changed
+returns c = rw (c .before .before .before .before .before .before .before .before .before .before .before .before .before .before .drawing .given .1) (c .before .before .before .before .before .before .before .before .clear-columns .ensures)
+
+same-length-5 : tie.Need-same-length-5
+same-length-5 c = search needs
+
+same-length-6 : tie.Need-same-length-6
+same-length-6 c = search needs
+
+same-length-7 : tie.Need-same-length-7
+same-length-7 c = search needs
+
+same-length-8 : tie.Need-same-length-8
+same-length-8 c = search needs
+
+returns-2 : tie.Need-returns-2
+unfolding changed texelIn
+returns-2 c = rw (c .before .before .before .before .before .before .before .before .before .before .before .before .before .before .drawing2 .given .1) (c .before .before .before .before .before .before .before .before .ink-columns .ensures)
+
+same-length-9 : tie.Need-same-length-9
+same-length-9 c = search needs
+
+same-length-10 : tie.Need-same-length-10
+same-length-10 c = search needs
+
+same-length-11 : tie.Need-same-length-11
+same-length-11 c = search needs
+
+same-length-12 : tie.Need-same-length-12
+same-length-12 c = search needs
+
+returns-3 : tie.Need-returns-3
+unfolding changed texelIn
+returns-3 c = rw (c .before .before .before .before .before .before .before .before .before .before .before .before .before .before .drawing3 .given .1) (c .before .before .before .before .before .before .before .before .ink-columns2 .ensures)
+
+same-length-13 : tie.Need-same-length-13
+same-length-13 c = search needs
+
+same-length-14 : tie.Need-same-length-14
+same-length-14 c = search needs
+
+same-length-15 : tie.Need-same-length-15
+same-length-15 c = search needs
+
+same-length-16 : tie.Need-same-length-16
+same-length-16 c = search needs
+
+returns-4 : tie.Need-returns-4
+unfolding changed texelIn
+returns-4 c = rw (c .before .before .before .before .before .before .before .before .before .before .before .before .before .before .drawing4 .given .1) (c .before .before .before .before .before .before .before .before .ink-columns3 .ensures)
 
 pub draw-columns-spec : {M : Type 1} → statement M
 draw-columns-spec =
     tie.close
     (tie.spec
-    Inv-loop
-    μ-loop
-    loop-holds
-    draw-column-requires
-    add-x
-    loop-less
-    loop-again
+    enum-known-drawing
+    clear-columns-requires
+    enum-known-drawing-2
+    ink-columns-requires
+    enum-known-drawing-3
+    ink-columns-requires-2
+    enum-known-drawing-4
+    ink-columns-requires-3
     same-length
     same-length-2
     same-length-3
     same-length-4
-    returns)
+    returns
+    same-length-5
+    same-length-6
+    same-length-7
+    same-length-8
+    returns-2
+    same-length-9
+    same-length-10
+    same-length-11
+    same-length-12
+    returns-3
+    same-length-13
+    same-length-14
+    same-length-15
+    same-length-16
+    returns-4)
