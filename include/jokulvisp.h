@@ -276,6 +276,14 @@ typedef struct { uint32_t number, list, place, count; } jv_answer;
 jv_answer jv_check(const uint8_t *list, size_t list_length, const uint8_t *ram_g, size_t ram_g_length, uint32_t width,
                    uint32_t height, uint32_t limit);
 
+jv_answer jv_paint_row(const uint8_t *list, size_t list_length, const uint8_t *ram_g, size_t ram_g_length,
+                       uint32_t width, uint32_t height, uint32_t row, uint32_t limit, uint8_t *picture,
+                       size_t picture_length, uint8_t *tags, size_t tags_length);
+
+jv_answer jv_paint(const uint8_t *list, size_t list_length, const uint8_t *ram_g, size_t ram_g_length, uint32_t width,
+                   uint32_t height, uint32_t limit, uint8_t *picture, size_t picture_length, uint8_t *tags,
+                   size_t tags_length);
+
 #ifdef __cplusplus
 }
 #endif

@@ -1,0 +1,22 @@
+/* The pictures whose painting is measured: lists that draw on a frame of 800 by 480 pixels. */
+#ifndef SCENES_H
+#define SCENES_H
+
+#include <stddef.h>
+#include <stdint.h>
+
+#include "lists.h"
+
+enum { SCENE_WIDTH = 800, SCENE_HEIGHT = 480 };
+
+/* Writes the list of the scene of this name and gives the number of its words, 0 where there is no such scene:
+     shapes   a clear and twenty large points and rectangles, half of them translucent
+     map      a clear and 300 small rectangles, each with a colour and a tag of its own
+     icons    a clear and 200 icons of 24 by 24 pixels in all three formats
+     full     2048 words: state changes, shapes, icons, saves, restores and calls */
+size_t write_scene(const char *name, uint32_t words[MOST_WORDS]);
+
+/* The bytes of the icons. */
+void fill_scene_ram_g(uint8_t ram_g[RAM_G_BYTES]);
+
+#endif
