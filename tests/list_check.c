@@ -25,17 +25,19 @@ static void fill_ram_g(void)
     is_ram_g_filled = true;
 }
 
-/* Of exactly this length, so that a sanitizer sees a byte read past it. */
-static uint8_t *copied(const uint8_t *bytes, size_t length)
+void *allocated(size_t length)
 {
-    if (length == 0)
-        return NULL;
-    uint8_t *copy = malloc(length);
-    if (copy == NULL) {
+    void *bytes = malloc(length);
+    if (bytes == NULL) {
         puts("out of memory");
         exit(1);
     }
-    return memcpy(copy, bytes, length);
+    return bytes;
+}
+
+uint8_t *copied(const uint8_t *bytes, size_t length)
+{
+    return length == 0 ? NULL : memcpy(allocated(length), bytes, length);
 }
 
 jv_answer answer_of_library(const run_request *r)

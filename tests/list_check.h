@@ -4,6 +4,7 @@
 #define LIST_CHECK_H
 
 #include <stdbool.h>
+#include <stddef.h>
 #include <stdint.h>
 
 #include "jokulvisp.h"
@@ -26,6 +27,12 @@ void print_answer(const char *before, jv_answer a);
 
 /* The numbers, then the list word by word with the names of commands and fields. */
 void print_request(const run_request *request);
+
+/* So much memory, for `free`; where there is none, the tests end. */
+void *allocated(size_t length);
+
+/* A copy of exactly this length, so that a sanitizer sees a byte read past it; NULL for 0 bytes. */
+uint8_t *copied(const uint8_t *bytes, size_t length);
 
 /* A list's words as its bytes. */
 void put_words(uint8_t *bytes, const uint32_t *words, size_t count);

@@ -7,10 +7,9 @@
 #include "check.h"
 #include "list_check.h"
 #include "list_words.h"
+#include "tables.h"
 
 _Static_assert(sizeof(jv_answer) == 16, "a list's answer is four numbers");
-
-#define LENGTH(array) (sizeof(array) / sizeof((array)[0]))
 
 enum { LEAST_OF_EACH = 3, NUMBERS = 20, MOST_WORDS = MOST_LIST_BYTES / 4 };
 
@@ -24,8 +23,6 @@ typedef struct {
     size_t ram_g_length;
 } hand_list;
 
-#define CASE(name) __LINE__, name
-#define LIST(...) (const uint32_t[]){ __VA_ARGS__ }, LENGTH(((const uint32_t[]){ __VA_ARGS__ }))
 #define GIVES(number, place, count) { number, place, count }, 0, 0
 #define GIVES_UNDER_LIMIT(limit, number, place, count) { number, place, count }, limit, 0
 #define GIVES_WITH_RAM_G(length, number, place, count) { number, place, count }, 0, length

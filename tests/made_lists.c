@@ -6,11 +6,11 @@
 #include "draw.h"
 #include "guide.h"
 #include "list_words.h"
+#include "tables.h"
 
 /* No two operands or arguments of one expression draw: C leaves open which of them comes first, and the lists would
    differ from one compiler to the next. */
 
-#define LENGTH(array) (sizeof(array) / sizeof((array)[0]))
 #define DRAW_ONE_OF(array) ((array)[draw_below(LENGTH(array))])
 
 enum { MOST_WORDS = MOST_LIST_BYTES / 4, MOST_STRETCHES = 6, MOST_CALLS_PUT = 64, MOST_READY = 8, MOST_CELL = 127 };

@@ -1,0 +1,69 @@
+/* Pictures worked out by hand, drawn in signs, which both the library and the second program have to paint. */
+#ifndef HAND_PICTURES_H
+#define HAND_PICTURES_H
+
+#include <stddef.h>
+#include <stdint.h>
+
+#include "list_words.h"
+#include "paint_check.h"
+#include "tables.h"
+
+/* What a sign stands for. Two signs always stand for the same: '.' for what nothing was drawn on, black with tag 0, and
+   '#' for what the starting values draw, white with tag 255. */
+typedef struct {
+    char sign;
+    shown_pixel pixel;
+} legend_entry;
+
+/* A list, all of whose words are fetched once, and what it paints: one string of signs for each row. */
+typedef struct {
+    int line;
+    const char *name;
+    const uint32_t *words;
+    size_t count;
+    const char *const *rows;
+    size_t height;
+    const legend_entry *legend;
+    size_t legend_count;
+    const uint8_t *ram_g;
+    size_t ram_g_length;
+} hand_picture;
+
+#define SHOWS(...)                                                                                                     \
+    .rows = (const char *const[]){ __VA_ARGS__ }, .height = LENGTH(((const char *const[]){ __VA_ARGS__ }))
+#define WHERE(...)                                                                                                     \
+    .legend = (const legend_entry[]){ __VA_ARGS__ }, .legend_count = LENGTH(((const legend_entry[]){ __VA_ARGS__ }))
+#define OVER_RAM_G(...)                                                                                                \
+    .ram_g = (const uint8_t[]){ __VA_ARGS__ }, .ram_g_length = LENGTH(((const uint8_t[]){ __VA_ARGS__ }))
+#define OVER_MEMORY(bytes) .ram_g = (bytes), .ram_g_length = sizeof(bytes)
+
+/* Has it painted by the frame and row by row, by both programs. `file` is where it stands. */
+void check_picture(const char *file, const hand_picture *picture);
+
+#define CHECK_PICTURES(part, table) check_pictures(__FILE__, part, table, LENGTH(table))
+void check_pictures(const char *file, const char *part, const hand_picture *table, size_t count);
+
+/* A picture of one pixel. */
+#define CHECK_PIXEL(name, wanted, ...)                                                                                 \
+    check_picture(__FILE__, &(const hand_picture){ CASE(name), LIST(__VA_ARGS__), SHOWS("x"), WHERE({ 'x', wanted }) })
+
+/* Points that cover every pixel of a frame of at most 300 by 300, from now on one with each EVERYWHERE. */
+#define BEGIN_EVERYWHERE BEGIN(POINTS), POINT_SIZE(8191)
+#define EVERYWHERE VERTEX2F(0, 0)
+
+/* Words after which the picture's red, green and blue are what the stored alpha was; the tags stay. Blending white by
+   the stored alpha makes each of them (255 * alpha + 127) / 255. */
+#define SHOW_ALPHA                                                                                                     \
+    RESTORE_CONTEXT(), TAG_MASK(0), COLOR_MASK(1, 1, 1, 0), BLEND_FUNC(3, 0), BEGIN_EVERYWHERE, EVERYWHERE
+
+/* Words after which red, green and blue are what the stored stencil was; the tags stay. Where a bit of it is set, a
+   colour of that bit's worth is added. */
+#define SHOW_STENCIL_BIT(bit)                                                                                          \
+    STENCIL_FUNC(5, 1 << (bit), 1 << (bit)), COLOR_RGB(1 << (bit), 1 << (bit), 1 << (bit)), EVERYWHERE
+#define SHOW_STENCIL                                                                                                   \
+    RESTORE_CONTEXT(), TAG_MASK(0), BEGIN_EVERYWHERE, COLOR_RGB(0, 0, 0), BLEND_FUNC(0, 0), EVERYWHERE,                \
+        BLEND_FUNC(1, 1), SHOW_STENCIL_BIT(0), SHOW_STENCIL_BIT(1), SHOW_STENCIL_BIT(2), SHOW_STENCIL_BIT(3),          \
+        SHOW_STENCIL_BIT(4), SHOW_STENCIL_BIT(5), SHOW_STENCIL_BIT(6), SHOW_STENCIL_BIT(7)
+
+#endif

@@ -1,0 +1,134 @@
+#include "paint_check.h"
+
+#include <stdio.h>
+#include <stdlib.h>
+
+#include "list_check.h"
+
+/* So many bytes lie before and behind each run. */
+enum { AROUND = 64 };
+
+/* ---- The two programs ---- */
+
+static jv_answer paint_by_library(const paint_request *p)
+{
+    const run_request *r = &p->run;
+    return jv_paint(r->list, r->list_length, p->ram_g, r->ram_g_length, r->width, r->height, r->limit, p->picture,
+                    p->picture_length, p->tags, p->tags_length);
+}
+
+static jv_answer paint_row_by_library(const paint_request *p, uint32_t row)
+{
+    const run_request *r = &p->run;
+    return jv_paint_row(r->list, r->list_length, p->ram_g, r->ram_g_length, r->width, r->height, row, r->limit,
+                        p->picture, p->picture_length, p->tags, p->tags_length);
+}
+
+static jv_answer paint_by_second_program(const paint_request *p)
+{
+    return as_answer(paint_frame(p));
+}
+
+static jv_answer paint_row_by_second_program(const paint_request *p, uint32_t row)
+{
+    return as_answer(paint_frame_row(p, row));
+}
+
+const painter library = { "jv_paint", "jv_paint_row", paint_by_library, paint_row_by_library };
+const painter second_program = { "the second program", "the second program's row", paint_by_second_program,
+                                 paint_row_by_second_program };
+
+/* ---- What is lent ---- */
+
+static uint8_t pattern_byte(size_t n)
+{
+    return (uint8_t)(n * 167 + n / 256 + 91);
+}
+
+static uint8_t *patterned_block(size_t length)
+{
+    uint8_t *block = allocated(length + 2 * AROUND);
+    for (size_t n = 0; n < length + 2 * AROUND; n++)
+        block[n] = pattern_byte(n);
+    return block;
+}
+
+static bool has_pattern(const uint8_t *block, size_t first, size_t past_last)
+{
+    for (size_t n = first; n < past_last; n++)
+        if (block[n] != pattern_byte(n))
+            return false;
+    return true;
+}
+
+lent_runs lend(size_t picture_length, size_t tags_length)
+{
+    lent_runs lent = { .picture_length = picture_length, .tags_length = tags_length };
+    lent.picture_block = patterned_block(picture_length);
+    lent.tags_block = patterned_block(tags_length);
+    lent.picture = lent.picture_block + AROUND;
+    lent.tags = lent.tags_block + AROUND;
+    return lent;
+}
+
+static lent_runs lend_pixels(const run_request *run, size_t pixels)
+{
+    bool is_within_limits = run->width <= 800 && run->height <= 600;
+    return is_within_limits ? lend(3 * pixels, pixels) : lend(3, 1);
+}
+
+lent_runs lend_frame(const run_request *run)
+{
+    return lend_pixels(run, (size_t)run->width * run->height);
+}
+
+lent_runs lend_row(const run_request *run)
+{
+    return lend_pixels(run, run->width);
+}
+
+void take_back(lent_runs *lent)
+{
+    free(lent->picture_block);
+    free(lent->tags_block);
+    *lent = (lent_runs){ .picture = NULL };
+}
+
+static bool is_kept_around(const uint8_t *block, size_t length)
+{
+    return has_pattern(block, 0, AROUND) && has_pattern(block, AROUND + length, AROUND + length + AROUND);
+}
+
+bool is_kept_inside(const lent_runs *lent)
+{
+    return is_kept_around(lent->picture_block, lent->picture_length) &&
+           is_kept_around(lent->tags_block, lent->tags_length);
+}
+
+bool is_as_lent(const lent_runs *lent)
+{
+    return has_pattern(lent->picture_block, 0, lent->picture_length + 2 * AROUND) &&
+           has_pattern(lent->tags_block, 0, lent->tags_length + 2 * AROUND);
+}
+
+paint_request lending(const run_request *run, const uint8_t *ram_g, const lent_runs *lent)
+{
+    return (paint_request){ *run, ram_g, lent->picture, lent->picture_length, lent->tags, lent->tags_length };
+}
+
+/* ---- Pixels ---- */
+
+shown_pixel pixel_at(const uint8_t *picture, const uint8_t *tags, size_t at)
+{
+    return (shown_pixel){ picture[3 * at], picture[3 * at + 1], picture[3 * at + 2], tags[at] };
+}
+
+bool are_equal_pixels(shown_pixel a, shown_pixel b)
+{
+    return a.red == b.red && a.green == b.green && a.blue == b.blue && a.tag == b.tag;
+}
+
+void print_pixel(const char *before, shown_pixel p)
+{
+    printf("    %s red %u, green %u, blue %u, tag %u\n", before, p.red, p.green, p.blue, p.tag);
+}
