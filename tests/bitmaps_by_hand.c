@@ -229,6 +229,12 @@ static const hand_picture formats[] = {
     { CASE("RGB565 times colour and alpha"),
       LIST(COLOR_RGB(128, 64, 255), COLOR_A(128), BITMAP(RGB565, 2, 1, 1, 1), VERTEX2II(0, 0, 0, 0), DISPLAY()),
       SHOWS("x"), WHERE({ 'x', { 62, 32, 124, 255 } }), OVER_RAM_G(0xFF, 0xFF) },
+    /* Alphas 127 times 1 and 127 make 254; 128 times 1, 255; 100 times 99, 10027, which is 39 times 255 and more. */
+    { CASE("the product is rounded"),
+      LIST(BITMAP(L8, 1, 1, 1, 1), COLOR_A(1), VERTEX2II(0, 0, 0, 0), VERTEX2II(1, 0, 0, 1), COLOR_A(99),
+           VERTEX2II(2, 0, 0, 2), DISPLAY()),
+      SHOWS("01x"), WHERE({ '0', { 0, 0, 0, 255 } }, { '1', { 1, 1, 1, 255 } }, { 'x', { 39, 39, 39, 255 } }),
+      OVER_RAM_G(127, 128, 100) },
     { CASE("the alpha test sees the product: 255 times 99 is 99"),
       LIST(BITMAP(RGB565, 2, 1, 1, 1), COLOR_A(99), BLEND_FUNC(ONE, ZERO), ALPHA_FUNC(GREATER, 98),
            VERTEX2II(0, 0, 0, 0), ALPHA_FUNC(GREATER, 99), VERTEX2II(1, 0, 0, 0), DISPLAY()),

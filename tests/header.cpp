@@ -25,6 +25,25 @@ static bool is_answer(const jv_answer &came, std::uint32_t number, std::uint32_t
     return came.number == number && came.list == 0 && came.place == place && came.count == count;
 }
 
+static bool is_red(const std::uint8_t *pixel)
+{
+    return pixel[0] == 255 && pixel[1] == 0 && pixel[2] == 0;
+}
+
+// Two pixels by one, then its only row.
+static bool do_paint_calls_answer()
+{
+    std::uint8_t picture[6] = { 9, 9, 9, 9, 9, 9 }, tags[2] = { 9, 9 }, row[6] = { 9, 9, 9, 9, 9, 9 };
+    const jv_answer frame_came = jv_paint(clear_screen, 12, nullptr, 0, 2, 1, 64, picture, 6, tags, 2);
+    const bool is_painted = is_answer(frame_came, JV_DONE, 0, 3) && is_red(picture) && is_red(picture + 3) &&
+                            tags[0] == 0 && tags[1] == 0;
+    const jv_answer row_came = jv_paint_row(clear_screen, 12, nullptr, 0, 2, 1, 0, 64, row, 6, tags, 2);
+    const bool is_row_painted = is_answer(row_came, JV_DONE, 0, 3) && is_red(row) && is_red(row + 3);
+    return is_painted && is_row_painted &&
+           is_answer(jv_paint(clear_screen, 12, nullptr, 0, 2, 1, 64, picture, 5, tags, 2), JV_BAD_FRAME, 0, 0) &&
+           is_answer(jv_paint_row(clear_screen, 12, nullptr, 0, 2, 1, 1, 64, row, 6, tags, 2), JV_BAD_FRAME, 0, 0);
+}
+
 int main()
 {
     const jv_word read = jv_read_word(0x9B86EFD4);
@@ -39,7 +58,10 @@ int main()
                         is_answer(jv_check(clear_screen, 12, nullptr, 0, 480, 272, 2), JV_LIMIT_REACHED, 8, 2) &&
                         is_answer(jv_check(clear_screen, 12, nullptr, 0, 801, 272, 65536), JV_BAD_FRAME, 0, 0);
 
-    std::printf("from C++: reading %s, writing %s, refusing %s, checking %s\n", reads ? "holds" : "FAILS",
-                writes ? "holds" : "FAILS", refuses ? "holds" : "FAILS", checks ? "holds" : "FAILS");
-    return reads && writes && refuses && checks ? 0 : 1;
+    const bool paints = do_paint_calls_answer();
+
+    std::printf("from C++: reading %s, writing %s, refusing %s, checking %s, painting %s\n", reads ? "holds" : "FAILS",
+                writes ? "holds" : "FAILS", refuses ? "holds" : "FAILS", checks ? "holds" : "FAILS",
+                paints ? "holds" : "FAILS");
+    return reads && writes && refuses && checks && paints ? 0 : 1;
 }

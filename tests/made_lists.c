@@ -24,11 +24,12 @@ typedef struct {
 } ready_handle;
 
 /* A list being written. Stretch 0 is where the run starts; it ends in DISPLAY, the others in RETURN. A CALL is written
-   before it is known where its stretch starts. */
+   before it is known where its stretch starts. The list draws anywhere, or it aims at a frame. */
 typedef struct {
     uint32_t words[MOST_WORDS];
     size_t count;
     size_t ram_g_length;
+    frame_size aim; /* 0 by 0 for none */
     ready_handle ready[MOST_READY];
     unsigned ready_count;
     unsigned stretches;
@@ -44,6 +45,17 @@ static void put(draft *d, uint32_t word)
 {
     if (d->count < MOST_WORDS)
         d->words[d->count++] = word;
+}
+
+static bool does_aim(const draft *d)
+{
+    return d->aim.width > 0 && d->aim.height > 0;
+}
+
+/* Whether something goes wrong, about once in so many times, and less often where a picture is to come of the list. */
+static bool draw_mishap(const draft *d, uint32_t times)
+{
+    return draw_once_in(does_aim(d) ? 8 * times : times);
 }
 
 /* ---- Single words ---- */
@@ -88,8 +100,118 @@ static uint32_t draw_word_of(uint32_t command)
     return draw_once_in(8) ? word | (draw() & reserved_bits(e)) : word;
 }
 
+/* Numbers next to which something changes, and now and then any. */
+static uint32_t draw_telling_byte(void)
+{
+    static const uint32_t telling[] = { 0, 1, 2, 127, 128, 254, 255, 255 };
+    return draw_once_in(2) ? DRAW_ONE_OF(telling) : draw_below(256);
+}
+
+/* Seldom NEVER, for nothing is drawn under it. */
+static uint32_t draw_test(void)
+{
+    return draw_once_in(40) ? 0 : draw_from(1, 7);
+}
+
+static uint32_t draw_stencil_test(void)
+{
+    static const uint32_t masks[] = { 255, 255, 1, 3, 0x0F, 0xF0 };
+    uint32_t func = draw_test();
+    uint32_t ref = draw_once_in(2) ? draw_below(4) : draw_telling_byte();
+    return STENCIL_FUNC(func, ref, DRAW_ONE_OF(masks));
+}
+
+static uint32_t draw_blend(void)
+{
+    uint32_t src = draw_below(6), dst = draw_below(6);
+    return draw_once_in(3) ? BLEND_FUNC(2, 4) : BLEND_FUNC(src, dst);
+}
+
+static uint32_t draw_colour_mask(void)
+{
+    uint32_t bits = draw_once_in(2) ? 15 : draw_below(16);
+    return COLOR_MASK(bits >> 3, bits >> 2, bits >> 1, bits);
+}
+
+/* Up to a size that fills the frame, mostly; seldom up to the largest there is. */
+static uint32_t draw_size(const draft *d, uint32_t most)
+{
+    uint32_t longer_side = d->aim.width > d->aim.height ? d->aim.width : d->aim.height;
+    switch (draw_below(8)) {
+    case 0:
+        return draw_below(most + 1);
+    case 1:
+    case 2:
+    case 3:
+        return draw_below(8 * longer_side + 16) % (most + 1);
+    default:
+        return draw_below(50);
+    }
+}
+
+static uint32_t draw_scissor_size(const draft *d)
+{
+    uint32_t width = draw_below(d->aim.width + 2), height = draw_below(d->aim.height + 2);
+    return draw_once_in(2) ? SCISSOR_SIZE(2048, 2048) : SCISSOR_SIZE(width, height);
+}
+
+static uint32_t draw_scissor_place(const draft *d)
+{
+    uint32_t x = draw_below(d->aim.width), y = draw_below(d->aim.height);
+    return draw_once_in(3) ? SCISSOR_XY(0, 0) : SCISSOR_XY(x / 2, y / 2);
+}
+
+static uint32_t draw_translation(uint32_t command, uint32_t side)
+{
+    int32_t halfway = (int32_t)draw_below(16 * side + 1) - 8 * (int32_t)side;
+    if (draw_once_in(20))
+        return draw_word_of(command);
+    return command << 24 | (draw_once_in(2) ? 0 : (uint32_t)halfway & 0x1FFFF);
+}
+
+/* A word of this command after which something is still seen in the frame, mostly. */
+static uint32_t draw_aimed_word_of(const draft *d, uint32_t command)
+{
+    switch (command) {
+    case JV_CLEAR_COLOR_A:
+    case JV_CLEAR_STENCIL:
+    case JV_COLOR_A:
+        return command << 24 | draw_telling_byte();
+    case JV_STENCIL_MASK:
+        return STENCIL_MASK(draw_once_in(2) ? 255 : draw_below(256));
+    case JV_ALPHA_FUNC: {
+        uint32_t func = draw_test();
+        return ALPHA_FUNC(func, draw_telling_byte());
+    }
+    case JV_STENCIL_FUNC:
+        return draw_stencil_test();
+    case JV_BLEND_FUNC:
+        return draw_blend();
+    case JV_COLOR_MASK:
+        return draw_colour_mask();
+    case JV_TAG_MASK:
+        return TAG_MASK(draw_once_in(4) ? 0 : 1);
+    case JV_POINT_SIZE:
+        return POINT_SIZE(draw_size(d, 8191));
+    case JV_LINE_WIDTH:
+        return LINE_WIDTH(draw_size(d, 4095));
+    case JV_SCISSOR_XY:
+        return draw_scissor_place(d);
+    case JV_SCISSOR_SIZE:
+        return draw_scissor_size(d);
+    case JV_VERTEX_FORMAT:
+        return VERTEX_FORMAT(draw_once_in(3) ? draw_below(5) : 4);
+    case JV_VERTEX_TRANSLATE_X:
+        return draw_translation(command, d->aim.width);
+    case JV_VERTEX_TRANSLATE_Y:
+        return draw_translation(command, d->aim.height);
+    default:
+        return draw_word_of(command);
+    }
+}
+
 /* Those that neither lead elsewhere nor decide what can be drawn. */
-static uint32_t draw_setting(void)
+static uint32_t draw_setting(const draft *d)
 {
     static const uint32_t commands[] = {
         JV_CLEAR_COLOR_RGB, JV_CLEAR_COLOR_A,      JV_CLEAR_STENCIL,      JV_CLEAR_TAG,    JV_CLEAR,
@@ -98,7 +220,8 @@ static uint32_t draw_setting(void)
         JV_POINT_SIZE,      JV_LINE_WIDTH,         JV_SCISSOR_XY,         JV_SCISSOR_SIZE, JV_NOP,
         JV_VERTEX_FORMAT,   JV_VERTEX_TRANSLATE_X, JV_VERTEX_TRANSLATE_Y,
     };
-    return draw_word_of(DRAW_ONE_OF(commands));
+    uint32_t command = DRAW_ONE_OF(commands);
+    return does_aim(d) ? draw_aimed_word_of(d, command) : draw_word_of(command);
 }
 
 static uint32_t draw_no_command(void)
@@ -156,14 +279,38 @@ static uint32_t draw_not_drawn(void)
     }
 }
 
-static uint32_t draw_vertex2f(void)
+/* A place on the side of a frame or a little beside it: in sixteenths, on a pixel, or in pixels for a small frac. */
+static int32_t draw_place(uint32_t side)
 {
+    switch (draw_below(12)) {
+    case 0:
+        return (int32_t)draw_below(32768) - 16384;
+    case 1:
+        return (int32_t)draw_below(side + 8) - 4;
+    case 2:
+    case 3:
+        return 16 * ((int32_t)draw_below(side + 8) - 4);
+    default:
+        return (int32_t)draw_below(16 * side + 96) - 48;
+    }
+}
+
+static uint32_t draw_vertex2f(const draft *d)
+{
+    if (does_aim(d)) {
+        int32_t x = draw_place(d->aim.width), y = draw_place(d->aim.height);
+        return VERTEX2F(x, y);
+    }
     uint32_t any = draw();
     return VERTEX2F(any >> 15, any);
 }
 
-static uint32_t draw_vertex2ii(uint32_t handle, uint32_t cell)
+static uint32_t draw_vertex2ii(const draft *d, uint32_t handle, uint32_t cell)
 {
+    if (does_aim(d)) {
+        uint32_t x = draw_below(d->aim.width + 2), y = draw_below(d->aim.height + 2);
+        return VERTEX2II(x, y, handle, cell);
+    }
     uint32_t any = draw();
     return VERTEX2II(any >> 9, any, handle, cell);
 }
@@ -228,7 +375,7 @@ static void put_bitmap_settings(draft *d, const bitmap_settings *b, bool needs_h
     };
     size_t count = needs_high_words ? 5 : 3;
     size_t first = draw_below((uint32_t)count);
-    size_t left = draw_once_in(40) ? count - 1 : count;
+    size_t left = draw_mishap(d, 40) ? count - 1 : count;
     for (size_t n = 0; n < left; n++)
         put(d, words[(first + n) % count]);
 }
@@ -268,7 +415,7 @@ static void set_up_bitmap(draft *d)
         return;
     bool is_large = b.stride > 1023 || b.layout_height > 511 || b.width > 511 || b.height > 511;
     bool needs_high_words = is_large || is_ready(d, handle) || draw_once_in(3);
-    if (draw_once_in(24))
+    if (draw_mishap(d, 24))
         spoil(&b);
     put(d, BITMAP_HANDLE(handle));
     put_bitmap_settings(d, &b, needs_high_words);
@@ -284,13 +431,13 @@ static void set_up_bitmap(draft *d)
 static void maybe_put_setting(draft *d)
 {
     if (draw_once_in(3))
-        put(d, draw_setting());
+        put(d, draw_setting(d));
 }
 
 static void put_settings(draft *d)
 {
     for (uint32_t left = draw_from(1, 6); left > 0; left--)
-        put(d, draw_setting());
+        put(d, draw_setting(d));
 }
 
 static void put_points_or_rectangles(draft *d)
@@ -299,7 +446,7 @@ static void put_points_or_rectangles(draft *d)
     for (uint32_t left = draw_from(1, 6); left > 0; left--) {
         maybe_put_setting(d);
         uint32_t any = draw();
-        put(d, any % 2 == 0 ? draw_vertex2f() : draw_vertex2ii(any >> 1, any >> 6));
+        put(d, any % 2 == 0 ? draw_vertex2f(d) : draw_vertex2ii(d, any >> 1, any >> 6));
     }
     if (draw_once_in(2))
         put(d, END());
@@ -313,14 +460,14 @@ static void put_bitmaps(draft *d)
     for (uint32_t left = draw_from(1, 5); left > 0; left--) {
         ready_handle r = d->ready[draw_below(d->ready_count)];
         uint32_t cell = draw_once_in(3) ? r.last_cell : draw_below(r.last_cell + 1);
-        if (draw_once_in(40))
+        if (draw_mishap(d, 40))
             cell = r.last_cell + 1;
         if (draw_once_in(2)) {
-            put(d, draw_vertex2ii(r.handle, cell));
+            put(d, draw_vertex2ii(d, r.handle, cell));
         } else {
             put(d, BITMAP_HANDLE(r.handle));
             put(d, CELL(cell));
-            put(d, draw_vertex2f());
+            put(d, draw_vertex2f(d));
         }
     }
     if (draw_once_in(2))
@@ -330,7 +477,7 @@ static void put_bitmaps(draft *d)
 static void put_saves(draft *d)
 {
     for (uint32_t left = draw_from(1, 6); left > 0; left--) {
-        bool takes_ready = d->ready_count > 0 && !draw_once_in(8);
+        bool takes_ready = d->ready_count > 0 && !draw_mishap(d, 8);
         ready_handle r = takes_ready ? d->ready[draw_below(d->ready_count)] : (ready_handle){ draw_below(32), 3 };
         put(d, BITMAP_HANDLE(r.handle));
         put(d, CELL(draw_below(r.last_cell + 1)));
@@ -354,7 +501,7 @@ static void put_contexts(draft *d)
     put_restores(d);
     if (draw_once_in(3) && d->ready_count > 0) {
         put(d, BEGIN(BITMAPS));
-        put(d, draw_vertex2f());
+        put(d, draw_vertex2f(d));
     }
 }
 
@@ -419,9 +566,19 @@ static void put_group(draft *d, unsigned stretch)
 
 /* ---- Lists ---- */
 
+static void put_clear(draft *d)
+{
+    put(d, draw_word_of(JV_CLEAR_COLOR_RGB));
+    put(d, draw_aimed_word_of(d, JV_CLEAR_COLOR_A));
+    put(d, CLEAR_STENCIL(draw_below(4)));
+    put(d, draw_word_of(JV_CLEAR));
+}
+
 static void put_stretch(draft *d, unsigned stretch, uint32_t groups)
 {
     d->start[stretch] = d->count;
+    if (stretch == 0 && does_aim(d))
+        put_clear(d);
     if (stretch == 0)
         for (uint32_t left = draw_below(4); left > 0; left--)
             set_up_bitmap(d);
@@ -441,13 +598,14 @@ static void set_call_targets(draft *d)
 }
 
 /* Stretch 0 comes first, or after the others with a jump to it. There is always at least one word. */
-static void write_draft(draft *d, size_t ram_g_length)
+static void write_draft(draft *d, size_t ram_g_length, frame_size aim)
 {
     memset(d, 0, sizeof *d);
     d->ram_g_length = ram_g_length;
+    d->aim = aim;
     d->stretches = draw_from(1, MOST_STRETCHES);
     bool comes_last = draw_once_in(4);
-    uint32_t groups = draw_once_in(100) ? 150 : draw_from(1, 8);
+    uint32_t groups = draw_once_in(100) ? 150 : draw_from(1, does_aim(d) ? 16 : 8);
     if (comes_last)
         put(d, NOP());
     else
@@ -542,13 +700,13 @@ static void write_noise(draft *d)
         put(d, is_of_commands ? draw_word_of(guide[draw_below(COMMANDS)].command) : draw());
 }
 
-static void write_kind(draft *d, list_kind kind, size_t ram_g_length)
+static void write_kind(draft *d, list_kind kind, size_t ram_g_length, frame_size aim)
 {
     if (kind == NOISE) {
         write_noise(d);
         return;
     }
-    write_draft(d, ram_g_length);
+    write_draft(d, ram_g_length, aim);
     if (kind == WITH_A_FAULT)
         put_fault(d);
     for (uint32_t left = kind == SPOILT ? draw_from(1, 6) : 0; left > 0; left--)
@@ -626,21 +784,53 @@ static size_t draw_bad_length(size_t length)
     }
 }
 
-void make_list(made_list *made, list_kind kind)
+/* Every twentieth list or so is refused for a number that it comes with. */
+static void spoil_request(run_request *r)
+{
+    if (draw_once_in(60))
+        r->limit = draw_bad_limit();
+    if (draw_once_in(60))
+        r->list_length = draw_bad_length(r->list_length);
+    if (draw_once_in(60))
+        r->ram_g_length = MOST_RAM_G_BYTES + 1;
+}
+
+static void write_list(made_list *made, list_kind kind, frame_size aim)
 {
     static draft d;
     size_t ram_g_length = draw_ram_g_length();
-    write_kind(&d, kind, ram_g_length);
+    write_kind(&d, kind, ram_g_length, aim);
     memset(made->bytes, 0, sizeof made->bytes);
     put_words(made->bytes, d.words, d.count);
     made->request = (run_request){ .list = made->bytes, .list_length = 4 * d.count, .ram_g_length = ram_g_length };
+}
+
+void make_list(made_list *made, list_kind kind)
+{
+    write_list(made, kind, (frame_size){ 0, 0 });
     made->request.width = draw_side(800);
     made->request.height = draw_side(600);
     made->request.limit = draw_limit(&made->request);
-    if (draw_once_in(60))
-        made->request.limit = draw_bad_limit();
-    if (draw_once_in(60))
-        made->request.list_length = draw_bad_length(4 * d.count);
-    if (draw_once_in(60))
-        made->request.ram_g_length = MOST_RAM_G_BYTES + 1;
+    spoil_request(&made->request);
+}
+
+void make_list_for_frame(made_list *made, list_kind kind, frame_size frame)
+{
+    write_list(made, kind, frame);
+    made->request.width = frame.width;
+    made->request.height = frame.height;
+    made->request.limit = draw_once_in(8) ? draw_limit(&made->request) : LONG_RUN;
+    spoil_request(&made->request);
+}
+
+void reduce_list(made_list *made, is_telling *is_still_telling, const void *asker)
+{
+    static const uint32_t nop = NOP();
+    for (size_t place = 0; place + 4 <= made->request.list_length; place += 4) {
+        uint8_t before[4];
+        memcpy(before, made->bytes + place, sizeof before);
+        put_words(made->bytes + place, &nop, 1);
+        if (!is_still_telling(asker, &made->request))
+            memcpy(made->bytes + place, before, sizeof before);
+    }
 }

@@ -3,6 +3,7 @@
 #ifndef MADE_LISTS_H
 #define MADE_LISTS_H
 
+#include <stdbool.h>
 #include <stdint.h>
 
 #include "list_check.h"
@@ -18,8 +19,21 @@ typedef struct {
     run_request request; /* its list is `bytes` */
 } made_list;
 
+/* In pixels. */
+typedef struct {
+    uint32_t width, height;
+} frame_size;
+
 /* Makes a list of this kind along with frame, RAM_G length and limit. These are allowed ones but for every twentieth
    or so. */
 void make_list(made_list *made, list_kind kind);
+
+/* The same for this frame, so that most of what the list draws lies there or beside the edges, and is seen. */
+void make_list_for_frame(made_list *made, list_kind kind, frame_size frame);
+
+/* Puts NOP for every word without which the list still tells what `is_still_telling` asks, so that a person sees the
+   words that matter. */
+typedef bool is_telling(const void *asker, const run_request *request);
+void reduce_list(made_list *made, is_telling *is_still_telling, const void *asker);
 
 #endif

@@ -17,6 +17,11 @@ enum { MOST_NAME = 80 };
 
 /* ---- CLEAR ---- */
 
+static const hand_picture red_row[] = {
+    { CASE("the list of document 01's rowshow"), LIST(0x02FF0000, 0x26000007, 0x00000000), SHOWS("rrrr"),
+      WHERE({ 'r', { 255, 0, 0, 0 } }) },
+};
+
 #define CLEAR_VALUES CLEAR_COLOR_RGB(10, 20, 30), CLEAR_COLOR_A(40), CLEAR_STENCIL(50), CLEAR_TAG(60)
 
 /* Each combination of flags, and what is then stored. */
@@ -372,6 +377,11 @@ static void check_contexts(void)
     begin_part("contexts");
     CHECK_PIXEL("a restored colour and tag", PIXEL(1, 2, 3, 4), COLOR_RGB(1, 2, 3), TAG(4), SAVE_CONTEXT(),
                 COLOR_RGB(9, 9, 9), TAG(9), RESTORE_CONTEXT(), BEGIN_EVERYWHERE, EVERYWHERE, DISPLAY());
+    CHECK_PIXEL("restored masks", PIXEL(255, 255, 255, 255), SAVE_CONTEXT(), COLOR_MASK(0, 0, 0, 0), TAG_MASK(0),
+                RESTORE_CONTEXT(), BEGIN_EVERYWHERE, EVERYWHERE, DISPLAY());
+    CHECK_PIXEL("a restored stencil mask", PIXEL(9, 9, 9, 255), SAVE_CONTEXT(), STENCIL_MASK(0), RESTORE_CONTEXT(),
+                STENCIL_FUNC(ALWAYS, 9, 0), STENCIL_OP(KEEP, REPLACE), BEGIN_EVERYWHERE, EVERYWHERE, SHOW_STENCIL,
+                DISPLAY());
     CHECK_PIXEL("document 01's example 11, the fourth restore: alpha 2 of white on black", PIXEL(2, 2, 2, 255),
                 COLOR_A(1), SAVE_CONTEXT(), COLOR_A(2), SAVE_CONTEXT(), COLOR_A(3), SAVE_CONTEXT(), COLOR_A(4),
                 SAVE_CONTEXT(), COLOR_A(5), SAVE_CONTEXT(), RESTORE_CONTEXT(), RESTORE_CONTEXT(), RESTORE_CONTEXT(),
@@ -386,6 +396,7 @@ static void check_contexts(void)
 
 void check_pixels_by_hand(void)
 {
+    CHECK_PICTURES("a red row", red_row);
     check_clears();
     check_clear_under_masks();
     check_clear_without_tests();

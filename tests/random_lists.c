@@ -1,12 +1,10 @@
 /* Many made lists, each run by jv_check and by the second program (runner.c), which have to agree. */
 #include <inttypes.h>
 #include <stdio.h>
-#include <string.h>
 
 #include "check.h"
 #include "draw.h"
 #include "list_check.h"
-#include "list_words.h"
 #include "made_lists.h"
 
 enum { LISTS = 120000, LEAST_MET = 100, NUMBERS = 20, MOST_MISMATCHES = 5 };
@@ -33,23 +31,16 @@ static bool do_agree(const run_request *r)
     return are_equal_answers(answer_of_library(r), as_answer(run_list(r)));
 }
 
-/* Puts NOP for every word without which the two still disagree, so that a person sees the ones that matter. */
-static void reduce(made_list *made)
+static bool do_disagree(const void *asker, const run_request *r)
 {
-    static const uint32_t nop = NOP();
-    for (size_t place = 0; place + 4 <= made->request.list_length; place += 4) {
-        uint8_t before[4];
-        memcpy(before, made->bytes + place, sizeof before);
-        put_words(made->bytes + place, &nop, 1);
-        if (do_agree(&made->request))
-            memcpy(made->bytes + place, before, sizeof before);
-    }
+    (void)asker;
+    return !do_agree(r);
 }
 
 static void print_mismatch(made_list *made)
 {
     printf("jv_check and the second program disagree; NOP stands for words that play no part in it\n");
-    reduce(made);
+    reduce_list(made, do_disagree, NULL);
     print_request(&made->request);
     print_answer("jv_check:          ", answer_of_library(&made->request));
     print_answer("the second program:", as_answer(run_list(&made->request)));
