@@ -1,4 +1,4 @@
-/* jokulvisp.h - display lists of FT81x and BT88x panels: their words read and written, whole lists checked.
+/* jokulvisp.h - display lists of FT81x and BT88x panels: their words read and written, whole lists checked and painted.
  *
  * This file is the library's manual as well as its declarations. The archive to link is libjokulvisp.a; it holds x86-64
  * code only. The header is C11 and C++.
@@ -8,8 +8,9 @@
  *   - It keeps no state: the same arguments always give the same answer, and calls may be made from several threads at
  *     once.
  *   - It takes numbers and byte runs and gives numbers. A byte run is a pointer and a length in bytes; where the length
- *     is 0 the pointer may be NULL. It is lent for the call only: it is not kept, and one that is lent as const is not
- *     written. No memory is allocated, and errno is left alone.
+ *     is 0 the pointer may be NULL. It is lent for the call only and not kept. One that is lent as const is not
+ *     written; another is written as the call says, and must not share a byte with the call's other runs. No memory is
+ *     allocated, and errno is left alone.
  *   - It takes every number that its types can hold. What it cannot work with it refuses by a number in its answer, and
  *     each call says what else the answer then holds.
  */
@@ -276,13 +277,55 @@ typedef struct { uint32_t number, list, place, count; } jv_answer;
 jv_answer jv_check(const uint8_t *list, size_t list_length, const uint8_t *ram_g, size_t ram_g_length, uint32_t width,
                    uint32_t height, uint32_t limit);
 
-jv_answer jv_paint_row(const uint8_t *list, size_t list_length, const uint8_t *ram_g, size_t ram_g_length,
-                       uint32_t width, uint32_t height, uint32_t row, uint32_t limit, uint8_t *picture,
-                       size_t picture_length, uint8_t *tags, size_t tags_length);
+/* ---- Pictures ----------------------------------------------------------------------------------------------------
+ *
+ * A picture is three bytes a pixel, red, green and blue; beside it goes a run of tags, one byte a pixel, which say what
+ * is touched there. Pixels follow each other from left to right and rows from top to bottom, without gaps: pixel
+ * (x, y) of a frame has its red at 3 * (y * width + x) and its tag at y * width + x.
+ *
+ * Both calls below paint what the list draws, and nothing of what was in the lent runs before stays: colour and tag
+ * start at 0 everywhere, and so do the alpha and the stencil that the list works with but nobody sees. They give the
+ * answer of jv_check, and paint only where that is 0:
+ *
+ *   0          the list draws, and every byte of both runs is painted;
+ *   1 to 4     as in jv_check, tested in this order; 1 also says that a lent run has another length than it has to
+ *              have, or that the frame has no such row;
+ *   10 to 19   as in jv_check, with place and count.
+ *
+ * Every number but 0 leaves each byte of both runs as it was lent. The answer's list is 0.
+ */
 
+/* Paints a frame.
+ *
+ * Takes list, RAM_G, frame and limit as jv_check does, of RAM_G now the bytes too, and lends the picture,
+ * 3 * width * height bytes, and the tags, width * height bytes, to be written.
+ *
+ *   static uint8_t picture[3 * 480 * 272], tags[480 * 272];
+ *   jv_paint(clear_screen, 12, NULL, 0, 480, 272, 65536, picture, sizeof picture, tags, sizeof tags)
+ *       gives { 0, 0, 0, 3 }; each pixel of the picture is 255, 0, 0, and each tag 0
+ *   jv_paint(clear_screen, 8, NULL, 0, 480, 272, 65536, picture, sizeof picture, tags, sizeof tags)
+ *       gives { 10, 0, 8, 2 }, for DISPLAY is missing; the red picture stays
+ *   jv_paint(clear_screen, 12, NULL, 0, 480, 272, 65536, picture, sizeof picture, NULL, 0)
+ *       gives { 1, 0, 0, 0 }, for there are no tags to paint
+ */
 jv_answer jv_paint(const uint8_t *list, size_t list_length, const uint8_t *ram_g, size_t ram_g_length, uint32_t width,
                    uint32_t height, uint32_t limit, uint8_t *picture, size_t picture_length, uint8_t *tags,
                    size_t tags_length);
+
+/* Paints one row of a frame: the same bytes that jv_paint gives it.
+ *
+ * Takes what jv_paint takes, and the row, 0 to height - 1 from the top; lends that row's picture, 3 * width bytes, and
+ * its tags, width bytes. So a frame can be painted by someone who has memory for a single row.
+ *
+ *   uint8_t picture[3 * 480], tags[480];
+ *   jv_paint_row(clear_screen, 12, NULL, 0, 480, 272, 271, 65536, picture, sizeof picture, tags, sizeof tags)
+ *       gives { 0, 0, 0, 3 }; the last row is painted
+ *   jv_paint_row(clear_screen, 12, NULL, 0, 480, 272, 272, 65536, picture, sizeof picture, tags, sizeof tags)
+ *       gives { 1, 0, 0, 0 }, for there is no row 272
+ */
+jv_answer jv_paint_row(const uint8_t *list, size_t list_length, const uint8_t *ram_g, size_t ram_g_length,
+                       uint32_t width, uint32_t height, uint32_t row, uint32_t limit, uint8_t *picture,
+                       size_t picture_length, uint8_t *tags, size_t tags_length);
 
 #ifdef __cplusplus
 }

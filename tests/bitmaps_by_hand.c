@@ -1,5 +1,5 @@
-/* Bitmaps: formats, strides, cells, high bits, where they lie and what is past their bytes. Drawn with the starting blend
-   on black, an L8 texel shows as a grey of its own number: (255 * n + 127) / 255 is n. */
+/* Bitmaps: formats, strides, cells, high bits, where they lie and what is past their bytes. Drawn on black with the
+   starting blend, an L8 texel shows as a grey of its own number: (255 * n + 127) / 255 is n. */
 #include "pictures_by_hand.h"
 
 #include <string.h>
@@ -129,7 +129,8 @@ static const hand_picture measures[] = {
            BLEND_FUNC(ONE, ZERO), VERTEX2II(0, 0, 0, 0), DISPLAY()),
       SHOWS("w0#",
             "00#"),
-      WHERE({ 'w', { 248, 252, 248, 255 } }, { '0', { 0, 0, 0, 255 } }), OVER_RAM_G(0xFF, 0xFF, 0xFF, 0xFF, 0xFF, 0xFF) },
+      WHERE({ 'w', { 248, 252, 248, 255 } }, { '0', { 0, 0, 0, 255 } }),
+      OVER_RAM_G(0xFF, 0xFF, 0xFF, 0xFF, 0xFF, 0xFF) },
     { CASE("it counts in the stencil"),
       LIST(BITMAP(L8, 1, 1, 2, 2), STENCIL_OP(KEEP, INCR), VERTEX2II(0, 0, 0, 0), SHOW_STENCIL, DISPLAY()),
       SHOWS("11.",
@@ -178,8 +179,8 @@ static const hand_picture cells[] = {
            VERTEX2II(1, 0, 31, 0), VERTEX2II(3, 0, 0, 3), DISPLAY()),
       SHOWS("befd"), GREYS, OVER_RAM_G(10, 20, 30, 40, 50, 60) },
     { CASE("a restore brings the handle back but not its settings"),
-      LIST(BITMAP(L8, 1, 1, 1, 1), SAVE_CONTEXT(), BITMAP_SOURCE(3), BITMAP_HANDLE(5), RESTORE_CONTEXT(), VERTEX2F(0, 0),
-           DISPLAY()),
+      LIST(BITMAP(L8, 1, 1, 1, 1), SAVE_CONTEXT(), BITMAP_SOURCE(3), BITMAP_HANDLE(5), RESTORE_CONTEXT(),
+           VERTEX2F(0, 0), DISPLAY()),
       SHOWS("d."), GREYS, OVER_RAM_G(10, 20, 30, 40, 50, 60) },
     { CASE("a cell that ends with RAM_G"), LIST(BITMAP(L8, 1, 3, 1, 3), VERTEX2II(0, 0, 0, 1), DISPLAY()),
       SHOWS("d",
@@ -208,7 +209,8 @@ static const hand_picture formats[] = {
       WHERE({ 'r', { 8, 0, 0, 255 } }, { 'g', { 0, 4, 0, 255 } }, { 'b', { 0, 0, 8, 255 } }),
       OVER_RAM_G(0x00, 0x08, 0x20, 0x00, 0x01, 0x00) },
     { CASE("RGB565 is opaque"),
-      LIST(CLEAR_COLOR_RGB(255, 255, 255), CLEAR(1, 0, 0), BITMAP(RGB565, 2, 1, 1, 1), VERTEX2II(0, 0, 0, 0), DISPLAY()),
+      LIST(CLEAR_COLOR_RGB(255, 255, 255), CLEAR(1, 0, 0), BITMAP(RGB565, 2, 1, 1, 1), VERTEX2II(0, 0, 0, 0),
+           DISPLAY()),
       SHOWS("0w"), WHERE({ '0', { 0, 0, 0, 255 } }, { 'w', { 255, 255, 255, 0 } }), OVER_RAM_G(0, 0) },
     { CASE("ARGB1555, alpha 1"), LIST(BITMAP(ARGB1555, 8, 1, 4, 1), VERTEX2II(0, 0, 0, 0), DISPLAY()), SHOWS("rgbw"),
       WHERE({ 'r', { 248, 0, 0, 255 } }, { 'g', { 0, 248, 0, 255 } }, { 'b', { 0, 0, 248, 255 } },
@@ -275,8 +277,8 @@ static void check_high_bits(void)
     CHECK_LARGE("a drawn width of 512 + 2, its last columns", 511, "abc",
                 LIST(BITMAP(L8, 600, 1, 2, 1), BITMAP_SIZE_H(1, 0), VERTEX2F(BEFORE(511), 0), DISPLAY()), "abc..");
     CHECK_LARGE("a drawn width of 3 * 512 + 1", 1535, "ab",
-                LIST(BITMAP(L8, 600, 1, 1, 1), BITMAP_LAYOUT_H(1, 0), BITMAP_SIZE_H(3, 0), VERTEX_TRANSLATE_X(BEFORE(1000)),
-                     VERTEX2F(BEFORE(535), 0), DISPLAY()),
+                LIST(BITMAP(L8, 600, 1, 1, 1), BITMAP_LAYOUT_H(1, 0), BITMAP_SIZE_H(3, 0),
+                     VERTEX_TRANSLATE_X(BEFORE(1000)), VERTEX2F(BEFORE(535), 0), DISPLAY()),
                 "ab..");
     CHECK_LARGE("a drawn height of 512 + 2", 511, "abc",
                 LIST(BITMAP(L8, 1, 88, 1, 2), BITMAP_LAYOUT_H(0, 1), BITMAP_SIZE_H(0, 1), VERTEX2F(0, BEFORE(511)),

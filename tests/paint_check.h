@@ -1,5 +1,5 @@
-/* Painting as the tests call it: by the library and by the second program (painter.c), on runs that are full of a pattern
-   and stand between bytes that nobody lent, so that every byte written shows. */
+/* Painting as the tests call it: by the library and by the second program (painter.c), on runs that are full of a
+   pattern and stand between bytes that nobody lent, so that every byte written shows. */
 #ifndef PAINT_CHECK_H
 #define PAINT_CHECK_H
 

@@ -89,7 +89,7 @@ static pixel_box reached_box(const run_action *a, pixel_box rows)
     return common_box(box_of_action(a), common_box(box_of_scissor(a->scissor), rows));
 }
 
-/* Both distances are along one axis, and none is longer than a size or width of at most 13 bits: the box saw to that. */
+/* Each distance is along one axis and no longer than a size or width of at most 13 bits: the box saw to that. */
 static int32_t squared_distance(int32_t dx, int32_t dy)
 {
     return dx * dx + dy * dy;
@@ -244,8 +244,8 @@ static void write_colour(const canvas *c, const run_action *a, size_t at, rgba s
         *alpha = blended(s.alpha, f, *alpha, g);
 }
 
-/* 'Alpha test, stencil test, stencil action, blend, tag. A failed alpha test changes nothing; a failed stencil test only
-   the stencil.' */
+/* 'Then alpha test [...], stencil test [...], stencil action, blend, tag. A failed alpha test changes nothing; a failed
+   stencil test only the stencil.' */
 static void draw_pixel(const canvas *c, const run_action *a, size_t at, rgba colour)
 {
     if (!passes(a->alpha_test.func, colour.alpha, a->alpha_test.ref))
@@ -297,8 +297,7 @@ static void clear(const canvas *c, const run_action *a, pixel_box box)
     }
 }
 
-/* A point's texel is white, and white times a colour is that colour: 255 times c, and 127, make c once divided. So it is
-   in rectangles. */
+/* The texel of points and rectangles is white, and white times a colour is that colour: (255 * c + 127) / 255 is c. */
 static void draw_point(const canvas *c, const run_action *a, pixel_box box)
 {
     for (int32_t y = box.top; y < box.bottom; y++) {

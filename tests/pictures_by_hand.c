@@ -1,5 +1,5 @@
-/* Pictures worked out by hand from document 01, and requests to paint that have to be refused. The library and the second
-   program (painter.c) both have to give them, byte for byte. */
+/* Pictures worked out by hand from document 01, and requests to paint that have to be refused. The library and the
+   second program (painter.c) both have to give them, byte for byte. */
 #include "pictures_by_hand.h"
 
 #include "check.h"

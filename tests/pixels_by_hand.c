@@ -1,5 +1,5 @@
-/* What one pixel becomes: CLEAR, the tests, the stencil actions, the blend, the masks and the tag. Alpha and stencil do not
-   come out, so SHOW_ALPHA and SHOW_STENCIL (hand_pictures.h) draw them. */
+/* What one pixel becomes: CLEAR, the tests, the stencil actions, the blend, the masks and the tag. Alpha and stencil do
+   not come out, so SHOW_ALPHA and SHOW_STENCIL (hand_pictures.h) draw them. */
 #include "pictures_by_hand.h"
 
 #include <stdio.h>
@@ -59,12 +59,12 @@ static void check_clear_under_masks(void)
     CHECK_PIXEL("the tag mask", PIXEL(10, 20, 30, 0), CLEAR_VALUES, TAG_MASK(0), CLEAR(1, 1, 1), DISPLAY());
     CHECK_PIXEL("a stencil mask of 0", PIXEL(0, 0, 0, 60), CLEAR_VALUES, STENCIL_MASK(0), CLEAR(1, 1, 1), SHOW_STENCIL,
                 DISPLAY());
-    CHECK_PIXEL("the low bits of the stencil: 50 is 0x32", PIXEL(0x02, 0x02, 0x02, 60), CLEAR_VALUES, STENCIL_MASK(0x0F),
-                CLEAR(1, 1, 1), SHOW_STENCIL, DISPLAY());
+    CHECK_PIXEL("the low bits of the stencil: 50 is 0x32", PIXEL(0x02, 0x02, 0x02, 60), CLEAR_VALUES,
+                STENCIL_MASK(0x0F), CLEAR(1, 1, 1), SHOW_STENCIL, DISPLAY());
     CHECK_PIXEL("the high bits stay: 0x50 and 0x02", PIXEL(0x52, 0x52, 0x52, 60), CLEAR_VALUES, CLEAR_STENCIL(0x5A),
                 CLEAR(0, 1, 0), CLEAR_STENCIL(0x32), STENCIL_MASK(0x0F), CLEAR(1, 1, 1), SHOW_STENCIL, DISPLAY());
-    CHECK_PIXEL("all masks are 0", PIXEL(0, 0, 0, 0), CLEAR_VALUES, COLOR_MASK(0, 0, 0, 0), STENCIL_MASK(0), TAG_MASK(0),
-                CLEAR(1, 1, 1), DISPLAY());
+    CHECK_PIXEL("all masks are 0", PIXEL(0, 0, 0, 0), CLEAR_VALUES, COLOR_MASK(0, 0, 0, 0), STENCIL_MASK(0),
+                TAG_MASK(0), CLEAR(1, 1, 1), DISPLAY());
 }
 
 static void check_clear_without_tests(void)
@@ -232,8 +232,9 @@ static void check_stencil_actions(void)
         uint8_t after = stencil_actions_done[n].after, other = other_action(action);
         char name[MOST_NAME];
         snprintf(name, sizeof name, "action %u on %u, mask %u, the test passed", action, stored, mask);
-        CHECK_PIXEL(name, PIXEL(after, after, after, 255), STORED(stored), STENCIL_MASK(mask), STENCIL_OP(other, action),
-                    STENCIL_FUNC(ALWAYS, ref, 1), BEGIN_EVERYWHERE, EVERYWHERE, SHOW_STENCIL, DISPLAY());
+        CHECK_PIXEL(name, PIXEL(after, after, after, 255), STORED(stored), STENCIL_MASK(mask),
+                    STENCIL_OP(other, action), STENCIL_FUNC(ALWAYS, ref, 1), BEGIN_EVERYWHERE, EVERYWHERE, SHOW_STENCIL,
+                    DISPLAY());
         snprintf(name, sizeof name, "action %u on %u, mask %u, the test failed", action, stored, mask);
         CHECK_PIXEL(name, PIXEL(after, after, after, 0), STORED(stored), STENCIL_MASK(mask), STENCIL_OP(action, other),
                     STENCIL_FUNC(NEVER, ref, 1), BEGIN_EVERYWHERE, EVERYWHERE, SHOW_STENCIL, DISPLAY());
@@ -256,13 +257,14 @@ static void check_order_of_tests(void)
                 BEGIN_EVERYWHERE, EVERYWHERE, SHOW_ALPHA, DISPLAY());
     CHECK_PIXEL("the stencil test sees what the last action stored", PIXEL(7, 7, 7, 255), STENCIL_OP(KEEP, INCR),
                 STENCIL_FUNC(GEQUAL, 2, 255), BLEND_FUNC(ONE, ONE), BEGIN_EVERYWHERE, COLOR_RGB(1, 1, 1), EVERYWHERE,
-                COLOR_RGB(2, 2, 2), EVERYWHERE, COLOR_RGB(4, 4, 4), EVERYWHERE, COLOR_RGB(8, 8, 8), EVERYWHERE, DISPLAY());
+                COLOR_RGB(2, 2, 2), EVERYWHERE, COLOR_RGB(4, 4, 4), EVERYWHERE, COLOR_RGB(8, 8, 8), EVERYWHERE,
+                DISPLAY());
 }
 
 /* ---- Blending ---- */
 
-/* Drawn is 220, 100, 50 with alpha 160, on 90, 60, 120 with alpha 48. So the factors are 0, 255, 160, 48, 95 and 207, and
-   with SRC_ALPHA and ONE_MINUS_DST_ALPHA red, for one, becomes (220 * 160 + 90 * 207 + 127) / 255 = 211. */
+/* Drawn is 220, 100, 50 with alpha 160, on 90, 60, 120 with alpha 48. So the factors are 0, 255, 160, 48, 95 and 207,
+   and with SRC_ALPHA and ONE_MINUS_DST_ALPHA red, for one, becomes (220 * 160 + 90 * 207 + 127) / 255 = 211. */
 static const struct {
     uint8_t src, dst;
     uint8_t after[4];
@@ -326,8 +328,8 @@ static void check_blend_examples(void)
 {
     begin_part("blending");
     CHECK_PIXEL("document 01's example 8: S 100, D 200, factors 128 and 127", PIXEL(150, 150, 150, 255),
-                CLEAR_COLOR_RGB(200, 200, 200), CLEAR(1, 0, 0), COLOR_RGB(100, 100, 100), COLOR_A(128), BEGIN_EVERYWHERE,
-                EVERYWHERE, DISPLAY());
+                CLEAR_COLOR_RGB(200, 200, 200), CLEAR(1, 0, 0), COLOR_RGB(100, 100, 100), COLOR_A(128),
+                BEGIN_EVERYWHERE, EVERYWHERE, DISPLAY());
     CHECK_PIXEL("document 01's example 9: S 200, D 100, both ONE", PIXEL(255, 255, 255, 255),
                 CLEAR_COLOR_RGB(100, 100, 100), CLEAR(1, 0, 0), COLOR_RGB(200, 200, 200), BLEND_FUNC(ONE, ONE),
                 BEGIN_EVERYWHERE, EVERYWHERE, DISPLAY());

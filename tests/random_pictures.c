@@ -1,5 +1,5 @@
-/* Many made lists, each painted by the library and by the second program (painter.c), which have to agree on the answer and
-   on every byte of picture and tags: by the frame, and by some of its rows.
+/* Many made lists, each painted by the library and by the second program (painter.c), which have to agree on the answer
+   and on every byte of picture and tags: of the frame, and of one of its rows painted alone.
 
    Each list is made from a number. `random_pictures N` makes and compares list N alone, and prints it. */
 #include <inttypes.h>
@@ -117,6 +117,8 @@ static painted paint_row_by(const painter *p, const run_request *r, const paint_
     return done;
 }
 
+typedef painted paint_by(const painter *p, const run_request *r, const paint_order *o);
+
 static bool are_equal_runs(const lent_runs *a, const lent_runs *b)
 {
     return memcmp(a->picture, b->picture, a->picture_length) == 0 && memcmp(a->tags, b->tags, a->tags_length) == 0;
@@ -199,14 +201,13 @@ static void print_painted(const painted *ours, const painted *theirs, const run_
 static void print_mismatch(made_list *made, const paint_order *o, unsigned long n)
 {
     bool is_of_frame = do_frames_differ(o, &made->request);
-    printf("list %lu (seed 0x%" PRIX64 "): jv_paint%s and the second program disagree; NOP stands for words that play no "
-           "part in it; RAM_G is as random_pictures.c makes it\n",
-           n, SEED, is_of_frame ? "" : "_row");
+    printf("list %lu (seed 0x%" PRIX64 "): %s and the second program disagree; NOP stands for words that play no part "
+           "in it; 'random_pictures %lu' does this list alone\n",
+           n, SEED, is_of_frame ? "jv_paint" : "jv_paint_row", n);
     reduce_list(made, is_of_frame ? do_frames_differ : do_rows_differ, o);
     print_request(&made->request);
-    painted ours = is_of_frame ? paint_frame_by(&library, &made->request, o) : paint_row_by(&library, &made->request, o);
-    painted theirs = is_of_frame ? paint_frame_by(&second_program, &made->request, o)
-                                 : paint_row_by(&second_program, &made->request, o);
+    paint_by *paint = is_of_frame ? paint_frame_by : paint_row_by;
+    painted ours = paint(&library, &made->request, o), theirs = paint(&second_program, &made->request, o);
     if (!is_of_frame)
         printf("    row %" PRIu32 "\n", o->row);
     print_painted(&ours, &theirs, &made->request);

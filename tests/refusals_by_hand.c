@@ -1,5 +1,5 @@
-/* Requests to paint that are refused: the number each has to give, with its place and count, and that not a byte of what
-   was lent is written. The frame is 4 by 3 unless a case says otherwise, and its list would paint all of it. */
+/* Requests to paint that are refused: the number each has to give, with its place and count, and that not a byte of
+   what was lent is written. The frame is 4 by 3 unless a case says otherwise, and its list would paint all of it. */
 #include "pictures_by_hand.h"
 
 #include <inttypes.h>
@@ -192,8 +192,8 @@ static void check_lengths_first(void)
     check_refusal(&(refused_request){ CASE("a list length"), bad_list, IS_FRAME, 0, 35, 12, { 1, 0, 0, 0 } });
     check_refusal(&(refused_request){ CASE("a list length, by tags"), bad_list, IS_FRAME, 0, 36, 0, { 1, 0, 0, 0 } });
     check_refusal(&(refused_request){ CASE("a list length, by the row"), bad_list, IS_ROW, 3, 12, 4, { 1, 0, 0, 0 } });
-    check_refusal(&(refused_request){ CASE("a RAM_G length"), bad_ram_g, IS_FRAME, 0, 37, 12, { 1, 0, 0, 0 } });
-    check_refusal(&(refused_request){ CASE("a RAM_G length, by the row"), bad_ram_g, IS_ROW, 3, 12, 4, { 1, 0, 0, 0 } });
+    check_refusal(&(refused_request){ CASE("RAM_G length"), bad_ram_g, IS_FRAME, 0, 37, 12, { 1, 0, 0, 0 } });
+    check_refusal(&(refused_request){ CASE("RAM_G length, by the row"), bad_ram_g, IS_ROW, 3, 12, 4, { 1, 0, 0, 0 } });
     check_refusal(&(refused_request){ CASE("a limit"), bad_limit, IS_FRAME, 0, 36, 13, { 1, 0, 0, 0 } });
     check_refusal(&(refused_request){ CASE("a limit, by the row"), bad_limit, IS_ROW, 1, 12, 5, { 1, 0, 0, 0 } });
     check_refusal(&(refused_request){ CASE("a fault"), bad_word, IS_FRAME, 0, 0, 0, { 1, 0, 0, 0 } });
@@ -216,7 +216,8 @@ static void check_vast_lengths(void)
         paint_request long_picture = lending(&run, ram_g, &lent), long_tags = long_picture;
         long_picture.picture_length += vast;
         long_tags.tags_length += vast;
-        CHECK_HOLDS(are_equal_answers(painters[n]->paint(&long_picture), wanted), "a picture of 2^32 + 36 bytes gives 1");
+        CHECK_HOLDS(are_equal_answers(painters[n]->paint(&long_picture), wanted),
+                    "a picture of 2^32 + 36 bytes gives 1");
         CHECK_HOLDS(are_equal_answers(painters[n]->paint(&long_tags), wanted), "tags of 2^32 + 12 bytes give 1");
         long_picture.picture_length = vast + 12;
         long_picture.tags_length = 4;
