@@ -4,14 +4,14 @@
 #include <stdio.h>
 #include <string.h>
 
-static bool is_standard_input(const char *name)
+bool is_standard(const char *name)
 {
     return strcmp(name, "-") == 0;
 }
 
 const char *spoken_name(const char *name)
 {
-    return is_standard_input(name) ? "standard input" : name;
+    return is_standard(name) ? "standard input" : name;
 }
 
 static void complain(const char *name, const char *why)
@@ -45,7 +45,7 @@ static bool read_stream(FILE *stream, const char *name, uint8_t *bytes, size_t r
 
 bool read_file(const char *name, uint8_t *bytes, size_t room, size_t *length)
 {
-    if (is_standard_input(name))
+    if (is_standard(name))
         return read_stream(stdin, name, bytes, room, length);
     FILE *stream = fopen(name, "rb");
     if (stream == NULL) {

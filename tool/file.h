@@ -9,7 +9,10 @@
 /* Beyond this a stream is not read to its end, for it may have none. */
 enum { MOST_COUNTED_BYTES = 1 << 24 };
 
-/* What to call a file: its name, but '-' is standard input. */
+/* '-' names no file but standard input, or standard output where something is written. */
+bool is_standard(const char *name);
+
+/* What to call a file that is read: its name, but '-' is standard input. */
 const char *spoken_name(const char *name);
 
 /* Reads the file of this name, '-' for standard input, as far as there is room, and gives in `length` how many bytes it

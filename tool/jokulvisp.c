@@ -1,10 +1,11 @@
-/* jokulvisp: what is in a display list and whether it draws, from the command line. */
+/* jokulvisp: what is in a display list, whether it draws and what, from the command line. */
 #include <errno.h>
 #include <stdbool.h>
 #include <stdio.h>
 #include <string.h>
 
 #include "check.h"
+#include "draw.h"
 #include "list.h"
 #include "usage.h"
 #include "words.h"
@@ -29,6 +30,8 @@ static int run(int count, char **arguments)
         return run_words(count - 1, arguments + 1);
     if (strcmp(arguments[0], "check") == 0)
         return run_check(count - 1, arguments + 1);
+    if (strcmp(arguments[0], "draw") == 0)
+        return run_draw(count - 1, arguments + 1);
     return explain_usage(arguments[0], "no such command");
 }
 
@@ -46,5 +49,5 @@ static bool is_all_written(void)
 int main(int count, char **arguments)
 {
     int status = run(count - 1, arguments + 1);
-    return is_all_written() ? status : GAVE_UP;
+    return status == GAVE_UP || is_all_written() ? status : GAVE_UP;
 }

@@ -4,7 +4,8 @@
 
 static const char usage[] =
     "usage: jokulvisp words LIST\n"
-    "       jokulvisp check [--width N] [--height N] [--limit N] [--ram-g FILE] LIST\n"
+    "       jokulvisp check [-s WIDTHxHEIGHT] [-g RAM_G] [-l LIMIT] LIST\n"
+    "       jokulvisp draw [-s WIDTHxHEIGHT] [-g RAM_G] [-l LIMIT] [--tags TAGS] -o PICTURE LIST\n"
     "       jokulvisp --help\n";
 
 static const char help[] =
@@ -19,18 +20,27 @@ static const char help[] =
     "                     the word at that byte offset is at fault, or for 10 and 19 would be next\n"
     "                 refused NUMBER\n"
     "                     frame, list length, RAM_G length or limit is out of bounds; nothing was run\n"
+    "  draw LIST    draw a display list, and say the same as check; a list that does not draw leaves\n"
+    "               the files as they were\n"
     "\n"
-    "    --width N      the frame's width in pixels, 1 to 800; 480 if not given\n"
-    "    --height N     the frame's height in pixels, 1 to 600; 272 if not given\n"
-    "    --limit N      how many words may be fetched, 1 to 65536; 65536 if not given\n"
-    "    --ram-g FILE   the graphics memory, at most 1048576 bytes; none if not given, and then no\n"
-    "                   bitmap can be drawn\n"
+    "  of both, check and draw:\n"
+    "    -s, --size WxH     the frame's width, 1 to 800, and height, 1 to 600, in pixels, as in 800x480;\n"
+    "                       480x272 if not given\n"
+    "    --width N, --height N\n"
+    "                       one of the two alone\n"
+    "    -l, --limit N      how many words may be fetched, 1 to 65536; 65536 if not given\n"
+    "    -g, --ram-g FILE   the graphics memory, at most 1048576 bytes; none if not given, and then no\n"
+    "                       bitmap can be drawn\n"
+    "  of draw alone:\n"
+    "    -o, --output FILE  where the picture goes, as a binary PPM; with '-' to standard output, and\n"
+    "                       then what check says goes to standard error\n"
+    "    --tags FILE        where the tags go, as a binary PGM, a grey for each tag; nowhere if not given\n"
     "\n"
-    "LIST is a file of raw display list bytes, lowest byte of each word first; '-' is standard input,\n"
-    "for FILE too. A list has 4 to 8192 bytes, a multiple of 4.\n"
+    "LIST is a file of raw display list bytes, lowest byte of each word first. A list has 4 to 8192\n"
+    "bytes, a multiple of 4. For LIST and RAM_G '-' is standard input.\n"
     "\n"
-    "Exit status: 0 every word could be read (words), the list draws (check); 1 not so; 2 the command\n"
-    "line is wrong, or a file cannot be read or written.\n";
+    "Exit status: 0 every word could be read (words), the list draws (check, draw); 1 not so; 2 the\n"
+    "command line is wrong, or a file cannot be read or written.\n";
 
 int print_help(void)
 {
