@@ -125,7 +125,8 @@ static void check_rows(const char *file, const hand_picture *h, const run_reques
 static void check_frame(const char *file, const hand_picture *h, const painter *p, const run_request *run,
                         const uint8_t *ram_g)
 {
-    lent_runs runs = lend_frame(run);
+    size_t pixels = width_of(h) * h->height;
+    lent_runs runs = lend(3 * pixels, pixels);
     paint_request request = lending(run, ram_g, &runs);
     came_rows came = { p->frame_call, p->paint(&request), &runs, 0, h->height };
     check_rows(file, h, run, &came);
@@ -135,7 +136,7 @@ static void check_frame(const char *file, const hand_picture *h, const painter *
 static void check_row(const char *file, const hand_picture *h, const painter *p, const run_request *run,
                       const uint8_t *ram_g, uint32_t row)
 {
-    lent_runs runs = lend_row(run);
+    lent_runs runs = lend(3 * width_of(h), width_of(h));
     paint_request request = lending(run, ram_g, &runs);
     came_rows came = { p->row_call, p->paint_row(&request, row), &runs, row, 1 };
     check_rows(file, h, run, &came);

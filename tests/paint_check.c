@@ -71,22 +71,6 @@ lent_runs lend(size_t picture_length, size_t tags_length)
     return lent;
 }
 
-static lent_runs lend_pixels(const run_request *run, size_t pixels)
-{
-    bool is_within_limits = run->width <= 800 && run->height <= 600;
-    return is_within_limits ? lend(3 * pixels, pixels) : lend(3, 1);
-}
-
-lent_runs lend_frame(const run_request *run)
-{
-    return lend_pixels(run, (size_t)run->width * run->height);
-}
-
-lent_runs lend_row(const run_request *run)
-{
-    return lend_pixels(run, run->width);
-}
-
 void take_back(lent_runs *lent)
 {
     free(lent->picture_block);

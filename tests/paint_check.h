@@ -29,10 +29,6 @@ typedef struct {
 /* Gives runs of these lengths full of the pattern. */
 lent_runs lend(size_t picture_length, size_t tags_length);
 
-/* Those that fit a frame, or one row of it, where that is within limits; else small ones. */
-lent_runs lend_frame(const run_request *run);
-lent_runs lend_row(const run_request *run);
-
 void take_back(lent_runs *lent);
 
 /* Whether the bytes around the runs are as they were; and whether those of the runs are, too. */

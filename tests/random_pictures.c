@@ -55,7 +55,9 @@ static uint32_t draw_side(uint32_t most)
 {
     if (draw_once_in(120))
         return draw_once_in(2) ? 0 : most + draw_from(1, 3);
-    return draw_once_in(40) ? draw_from(1, most / 4) : draw_from(1, 20);
+    if (draw_once_in(40))
+        return draw_from(1, draw_once_in(5) ? most : most / 4);
+    return draw_from(1, 20);
 }
 
 static frame_size draw_frame(unsigned long n)
