@@ -1,6 +1,6 @@
 /* A second program that paints display lists, in plain C over runner.c. Like it, it is written from document 01 and the
-   guide, apart from the library. It paints one action after the other, each over the whole frame; the library paints one
-   row after the other, each with all actions. */
+   guide, apart from the library. It paints one action after the other, each over the whole frame; the library paints
+   one row after the other, each with all actions. */
 #ifndef PAINTER_H
 #define PAINTER_H
 
