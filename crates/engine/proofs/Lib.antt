@@ -1,5 +1,4 @@
 mod Endings
-pub mod Examples
 mod Four
 mod Judging
 mod Keeping

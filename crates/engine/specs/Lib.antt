@@ -5,4 +5,3 @@ pub mod Machine
 pub mod Kept
 pub mod Run
 pub mod Saves
-pub mod Examples

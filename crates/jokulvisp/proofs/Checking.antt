@@ -1,15 +1,16 @@
--- jv_check: what it takes to be run, and that no second answer fits. Assumes nothing.
-use mathlib.Core.Path.{_≡_, refl, sym, _∙_}
-use mathlib.Core.Bool.{Bool, true, false, false≢true, cond, _&&_}
+-- The answer of a call on one list: when it is not a refusal, and that no second answer of jv_check fits. Assumes nothing.
+use mathlib.Core.Path.{_≡_, refl, sym, ap, _∙_}
+use mathlib.Core.Bool.{Bool, true, false, false≢true, cond, not, _&&_}
 use mathlib.Core.List.{List}
 use Prim.Native.Nat.{ℕ, zero, suc, _≤_, _^_}
 use native.Mathlib.Omega.{arith}
 use lib.Dec.{leb}
-use borrow.Author.Tests.{leb-true}
+use lib.ListN.{length}
+use borrow.Author.Tests.{leb-true, not-true, not-false}
 use Rattle.engine.specs.declared.run.Ending.{Ending}
 use Rattle.engine.specs.Run.{Ran}
 use Rattle.jokulvisp.specs.declared.check.JvAnswer.{JvAnswer}
-use Rattle.jokulvisp.specs.Check.{isFrame, isList, isMemory, isLimit, refusalOf, refused, checkTold, CheckAnswer}
+use Rattle.jokulvisp.specs.Check.{isFrame, isList, isMemory, isLimit, refusalOf, refused, told, answerOf, CheckAnswer}
 
 pub check-once : (list : List ℕ) (memory width height limit : ℕ) (a b : JvAnswer) → CheckAnswer list memory width height limit a → CheckAnswer list memory width height limit b → a ≡ b
 unfolding CheckAnswer
@@ -20,20 +21,34 @@ abbrev pub answered : Ending → JvAnswer
 answered x = record { number = x .number; list = 0; place = x .place; count = x .count }
 
 -- a refusal carries its number and nothing else
-pub told-refused : (n : ℕ) (r : Ran) → (n ≡ 0 → ⊥) → checkTold n r ≡ refused n
+pub told-refused : (n : ℕ) (r : Ran) → (n ≡ 0 → ⊥) → told n r ≡ refused n
 told-refused zero r h = absurd (h refl)
 told-refused (suc n) r h = refl
 
--- a list and a RAM_G that are not refused are within their limits
-pub record Admitted (l m : ℕ) : Type 0 where
+told-done : (n : ℕ) (r : Ran) → told n r .number ≡ 0 → n ≡ 0
+told-done zero r e = refl
+told-done (suc n) r e = e
+
+-- the test for number 1, made with the answer of `is_frame`
+pub no-frame : (answer frame lent : Bool) → answer ≡ frame → not (answer && lent) ≡ true → (frame && lent) ≡ false
+no-frame answer frame lent e h = sym (ap (λ (f : Bool). f && lent) e) ∙ not-true (answer && lent) h
+
+pub a-frame : (answer frame lent : Bool) → answer ≡ frame → not (answer && lent) ≡ false → (frame && lent) ≡ true
+a-frame answer frame lent e h = sym (ap (λ (f : Bool). f && lent) e) ∙ not-false (answer && lent) h
+
+-- what is not refused is within its limits
+pub record Admitted (l m w h : ℕ) (lent : Bool) : Type 0 where
   pub list : l ≤ 8192
   pub memory : m ≤ 2 ^ 20
+  pub width : w ≤ 800
+  pub height : h ≤ 600
+  pub runs : lent ≡ true
 
-and-left : (a b : Bool) → (a && b) ≡ true → a ≡ true
+pub and-left : (a b : Bool) → (a && b) ≡ true → a ≡ true
 and-left true b e = refl
 and-left false b e = e
 
-and-right : (a b : Bool) → (a && b) ≡ true → b ≡ true
+pub and-right : (a b : Bool) → (a && b) ≡ true → b ≡ true
 and-right true b e = e
 and-right false b e = absurd (false≢true e)
 
@@ -45,15 +60,36 @@ memory-within : (n : ℕ) → isMemory n ≡ true → n ≤ 2 ^ 20
 unfolding isMemory
 memory-within n e = leb-true n 1048576 e
 
+width-within : (w h : ℕ) → isFrame w h ≡ true → w ≤ 800
+unfolding isFrame
+width-within w h e = leb-true w 800 (and-right (leb 1 w) _ (and-left (leb 1 w && leb w 800) _ e))
+
+height-within : (w h : ℕ) → isFrame w h ≡ true → h ≤ 600
+unfolding isFrame
+height-within w h e = leb-true h 600 (and-right (leb 1 h) _ (and-right (leb 1 w && leb w 800) _ e))
+
 abbrev refusal : Bool → Bool → Bool → Bool → ℕ
 refusal f l m k = cond f (cond l (cond m (cond k 0 4) 3) 2) 1
 
-pub admitted : (list memory width height limit : ℕ) → refusalOf list memory width height limit ≡ 0 → Admitted list memory
+pub admitted : (list memory width height limit : ℕ) (lent : Bool) → refusalOf list memory width height limit lent ≡ 0 → Admitted list memory width height lent
 unfolding refusalOf
-admitted list memory width height limit = go (isFrame width height) (isList list) (isMemory memory) (isLimit limit) refl refl
+admitted list memory width height limit lent = go (isFrame width height && lent) (isList list) (isMemory memory) (isLimit limit) refl refl refl
   where
-    go : (f l m k : Bool) → isList list ≡ l → isMemory memory ≡ m → refusal f l m k ≡ 0 → Admitted list memory
-    go true true true k p q e = record { list = list-within list p; memory = memory-within memory q }
-    go false l m k p q e = absurd (omega arith)
-    go true false m k p q e = absurd (omega arith)
-    go true true false k p q e = absurd (omega arith)
+    go : (f l m k : Bool) → (isFrame width height && lent) ≡ f → isList list ≡ l → isMemory memory ≡ m → refusal f l m k ≡ 0 → Admitted list memory width height lent
+    go true true true k o p q e =
+        let frame = and-left (isFrame width height) lent o in
+        record {
+          list = list-within list p;
+          memory = memory-within memory q;
+          width = width-within width height frame;
+          height = height-within width height frame;
+          runs = and-right (isFrame width height) lent o;
+        }
+    go false l m k o p q e = absurd (omega arith)
+    go true false m k o p q e = absurd (omega arith)
+    go true true false k o p q e = absurd (omega arith)
+
+-- with number 0 nothing is refused
+pub done : (list : List ℕ) (memory width height limit : ℕ) (lent : Bool) → answerOf list memory width height limit lent .number ≡ 0 → Admitted (length list) memory width height lent
+unfolding answerOf
+done list memory width height limit lent e = admitted (length list) memory width height limit lent (told-done (refusalOf (length list) memory width height limit lent) _ e)

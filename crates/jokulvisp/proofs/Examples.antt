@@ -1,8 +1,35 @@
--- The examples of document 01 hold. Assumes nothing.
-use Rattle.engine.proofs.Examples.{example6, example7, example11}
-use Rattle.units.proofs.Examples.{example12-holds}
-use Rattle.words.proofs.Examples.{examples-hold}
-use Rattle.jokulvisp.specs.Examples.{CheckedByHand}
+-- The examples of document 01 hold, by computation. Assumes nothing.
+use mathlib.Core.Path.{refl}
+use Rattle.engine.specs.Kept.{keptWith, newest, dropped, pushed, popped}
+use Rattle.engine.specs.Machine.{called, obeys, steps}
+use Rattle.engine.specs.Run.{wordAt, after, run}
+use Rattle.pixel.specs.Blend.{product, blended}
+use Rattle.units.specs.Units.{meantPixels, floor16, sixteenthAt}
+use Rattle.words.specs.Fields.{both}
+use Rattle.words.specs.Words.{checked, readWord}
+use Rattle.jokulvisp.specs.Examples.{CheckedByHand, LiesIn}
 
 pub checked-by-hand : CheckedByHand
-checked-by-hand = record { oneToFive = examples-hold; six = example6; seven = example7; eleven = example11; twelve = example12-holds }
+unfolding both checked readWord called obeys steps wordAt after run keptWith newest dropped pushed popped product blended meantPixels floor16 sixteenthAt
+checked-by-hand =
+    record {
+      one = refl;
+      two = refl;
+      three = refl;
+      four = refl;
+      fiveAccepted = refl;
+      fiveRefused = refl;
+      six = refl;
+      seven = refl;
+      eight = refl;
+      nine = λ alpha stored. refl;
+      ten = refl;
+      elevenFirst = refl;
+      elevenSecond = refl;
+      elevenThird = refl;
+      elevenFourth = refl;
+      elevenFifth = refl;
+      twelveBelow = record { rounded = refl; kept = refl };
+      twelveNone = record { rounded = refl; kept = refl };
+      twelveLast = record { rounded = refl; kept = refl };
+    }

@@ -1,7 +1,7 @@
--- What jv_check answers. Document 01, 'Number table': '1 to 4 are tested in that order', then the run; '0 to 4 carry offset 0, and 1 to 4
--- count 0'. It names no list: only repaint does.
+-- What a call on one list answers, and jv_check. Document 01, 'Number table': '1 to 4 are tested in that order', then the run; '0 to 4 carry
+-- offset 0, and 1 to 4 count 0'. It names no list: only repaint does.
 use mathlib.Core.Path.{_≡_}
-use mathlib.Core.Bool.{Bool, cond, _&&_}
+use mathlib.Core.Bool.{Bool, true, cond, _&&_}
 use mathlib.Core.List.{List}
 use Prim.Native.Nat.{ℕ, zero, suc, _%_}
 use lib.Dec.{eqb, leb}
@@ -26,10 +26,11 @@ isMemory n = leb n 1048576
 unfoldable pub isLimit : ℕ → Bool
 isLimit n = within 1 65536 n
 
--- the number of the first limit that is broken, and 0 where none is
-unfoldable pub refusalOf : ℕ → ℕ → ℕ → ℕ → ℕ → ℕ
-refusalOf list memory width height limit =
-    cond (isFrame width height) (cond (isList list) (cond (isMemory memory) (cond (isLimit limit) 0 4) 3) 2) 1
+-- the number of the first limit that is broken, and 0 where none is. Number 1 has a second half: `lent` says whether the rows asked for are
+-- the frame's, and the runs lent for them of their length
+unfoldable pub refusalOf : ℕ → ℕ → ℕ → ℕ → ℕ → Bool → ℕ
+refusalOf list memory width height limit lent =
+    cond (isFrame width height && lent) (cond (isList list) (cond (isMemory memory) (cond (isLimit limit) 0 4) 3) 2) 1
 
 -- THE ANSWER
 abbrev pub refused : ℕ → JvAnswer
@@ -38,11 +39,14 @@ refused number = record { number = number; list = 0; place = 0; count = 0 }
 abbrev pub ended : Ran → JvAnswer
 ended r = record { number = r .number; list = 0; place = r .place; count = r .count }
 
-abbrev pub checkTold : ℕ → Ran → JvAnswer
-checkTold zero r = ended r
-checkTold (suc n) r = refused (suc n)
+abbrev pub told : ℕ → Ran → JvAnswer
+told zero r = ended r
+told (suc n) r = refused (suc n)
 
--- jv_check, for every list, every length of RAM_G, every size and every limit
+unfoldable pub answerOf : List ℕ → ℕ → ℕ → ℕ → ℕ → Bool → JvAnswer
+answerOf list memory width height limit lent =
+    told (refusalOf (length list) memory width height limit lent) (run list memory limit atStart)
+
+-- jv_check, for every list, every length of RAM_G, every size and every limit. It is lent nothing to paint on
 unfoldable pub CheckAnswer : List ℕ → ℕ → ℕ → ℕ → ℕ → JvAnswer → Type 0
-CheckAnswer list memory width height limit answer =
-    answer ≡ checkTold (refusalOf (length list) memory width height limit) (run list memory limit atStart)
+CheckAnswer list memory width height limit answer = answer ≡ answerOf list memory width height limit true

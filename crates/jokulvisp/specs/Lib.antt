@@ -1,3 +1,5 @@
+pub mod Agreement
 pub mod Check
 pub mod Examples
+pub mod Paint
 pub mod Words

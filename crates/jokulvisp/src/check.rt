@@ -1,7 +1,7 @@
-// jv_check, and the limits that it shares with the other calls on lists.
+// jv_check, and the limits and the answer that it shares with the other calls on lists.
 ghost use mathlib.Core.Path.{_≡_};
 ghost use lib.ListN.{length};
-ghost use Rattle.jokulvisp.specs.Check.{isFrame, isList, isMemory, isLimit, refusalOf, refused, CheckAnswer};
+ghost use Rattle.jokulvisp.specs.Check.{isFrame, isList, isMemory, isLimit, refusalOf, answerOf, CheckAnswer};
 
 #[repr(C)]
 pub struct JvAnswer {
@@ -35,11 +35,12 @@ fn is_limit(limit: u32) -> bool
     (1 <= limit) & (limit <= 65536)
 }
 
-// Number 1, 2, 3 or 4 of document 01's table, or 0 where all is within its limits.
-fn refuse(list: usize, memory: usize, width: u32, height: u32, limit: u32) -> u32
-    ensures { λ r. ⌜ r ≡ refusalOf list memory width height limit ⌝ }
+// Number 1, 2, 3 or 4 of document 01's table, or 0 where all is within its limits. `lent`: the rows that are to be painted
+// are the frame's, and the runs lent for them have their lengths.
+fn refuse(list: usize, memory: usize, width: u32, height: u32, limit: u32, lent: bool) -> u32
+    ensures { λ r. ⌜ r ≡ refusalOf list memory width height limit lent ⌝ }
 {
-    if !is_frame(width, height) {
+    if !(is_frame(width, height) & lent) {
         return 1;
     }
     if !is_list(list) {
@@ -54,17 +55,17 @@ fn refuse(list: usize, memory: usize, width: u32, height: u32, limit: u32) -> u3
     0
 }
 
-#[no_mangle]
-pub extern "C" fn jv_check(
+pub fn answer(
     list: &[u8],
     memory: &[u8],
     width: u32,
     height: u32,
     limit: u32,
+    lent: bool,
 ) -> JvAnswer
-    ensures { λ r. ⌜ CheckAnswer (now (list .entry)) (length (now (memory .entry))) width height limit r ⌝ }
+    ensures { λ r. ⌜ r ≡ answerOf (now (list .entry)) (length (now (memory .entry))) width height limit lent ⌝ }
 {
-    let number = refuse(list.len(), memory.len(), width, height, limit);
+    let number = refuse(list.len(), memory.len(), width, height, limit, lent);
     if number != 0 {
         return JvAnswer {
             number: number,
@@ -80,4 +81,17 @@ pub extern "C" fn jv_check(
         place: ending.place,
         count: ending.count,
     }
+}
+
+#[no_mangle]
+pub extern "C" fn jv_check(
+    list: &[u8],
+    memory: &[u8],
+    width: u32,
+    height: u32,
+    limit: u32,
+) -> JvAnswer
+    ensures { λ r. ⌜ CheckAnswer (now (list .entry)) (length (now (memory .entry))) width height limit r ⌝ }
+{
+    answer(list, memory, width, height, limit, true)
 }

@@ -3,9 +3,12 @@ ghost use Rattle.jokulvisp.specs.Words.{ReadAnswer, WriteAnswer, wordTol
 ghost use mathlib.Core.Path.{_≡_};
 
 mod check;
+mod painting;
 
 pub use check::JvAnswer;
 pub use check::jv_check;
+pub use painting::jv_paint;
+pub use painting::jv_paint_row;
 use words::Spelling;
 use words::Spelt;
 use words::Written;

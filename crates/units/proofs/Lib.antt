@@ -1,5 +1,4 @@
 mod AnyDisplacement
-pub mod Examples
 pub mod Meaning
 pub mod Rounding
 mod Sums

@@ -1,6 +1,5 @@
 pub mod Cutting
 pub mod Digits
-pub mod Examples
 pub mod Packing
 pub mod Round
 pub mod Rows

@@ -1,4 +1,3 @@
-pub mod Examples
 pub mod Fields
 pub mod Layout
 pub mod Table

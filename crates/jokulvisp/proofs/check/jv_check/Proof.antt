@@ -1,32 +1,14 @@
-use mathlib.Core.Path.{_≡_, ap, sym, _∙_}
 use borrow.Author.Needs.{needs}
-use Rattle.jokulvisp.specs.Check.{refusalOf, CheckAnswer}
-use Rattle.jokulvisp.proofs.Checking.{answered, admitted, told-refused}
+use Rattle.jokulvisp.specs.Check.{CheckAnswer}
 use Rattle.jokulvisp.proofs.check.jv_check.Statement.{statement}
 use Rattle.jokulvisp.proofs.check.jv_check.Tie as tie
 
-refuse-requires : tie.Need-refuse-requires
-refuse-requires c κs = search needs
+answer-requires : tie.Need-answer-requires
+answer-requires c κs = search needs
 
 returns : tie.Need-returns
 unfolding CheckAnswer
-returns c =
-    let n : refusalOf _ _ _ _ _ ≡ 0 → ⊥ = λ z. c .if1 .taken (c .before .refuse .ensures ∙ z) in
-    rw (c .before .refuse .ensures) (sym (told-refused _ _ n))
-
-cast-finish : tie.Need-cast-finish
-cast-finish c =
-    let m = admitted _ _ _ _ _ (sym (c .before .refuse .ensures) ∙ c .if1 .left) in
-    search needs
-
-finish-requires : tie.Need-finish-requires
-finish-requires c κs =
-    let m = admitted _ _ _ _ _ (sym (c .before .refuse .ensures) ∙ c .if1 .left) in
-    (m .list, m .memory)
-
-returns-2 : tie.Need-returns-2
-unfolding CheckAnswer
-returns-2 c = rw (sym (c .before .before .refuse .ensures) ∙ c .before .if1 .left) (ap answered (c .finish .ensures))
+returns c = c .answer .ensures
 
 pub jv-check-spec : {M : Type 1} → statement M
-jv-check-spec = tie.close (tie.spec refuse-requires returns cast-finish finish-requires returns-2)
+jv-check-spec = tie.close (tie.spec answer-requires returns)

@@ -1,0 +1,150 @@
+-- jv_paint_row and jv_paint: what painting takes and leaves, and that no second answer fits. Assumes nothing.
+use mathlib.Core.Path.{_≡_, refl, sym, ap, subst, _∙_}
+use mathlib.Core.Bool.{Bool, true, false, _&&_}
+use mathlib.Core.List.{List}
+use Prim.Native.Nat.{ℕ, _+_, _*_, _/_, _%_, _≤_, _^_}
+use native.Mathlib.Nat.{add-zero, le-trans, mul-left-comm}
+use native.Mathlib.Omega.{arith}
+use lib.Dec.{eqb, ltb}
+use lib.ListN.{length}
+use borrow.Author.Tests.{eq-eqb, ne-eqb, eqb-true, eqb-false, ltb-true}
+use Rattle.paint.specs.Picture.{stacked, coloursFrom, tagsFrom, rowColours, rowTags}
+use Rattle.jokulvisp.specs.declared.check.JvAnswer.{JvAnswer}
+use Rattle.jokulvisp.specs.Check.{answerOf}
+use Rattle.jokulvisp.specs.Paint.{isLent, leftBy, ran, Paints, Lends, PaintAnswer, PaintRowAnswer, RowsAnswer}
+use Rattle.jokulvisp.proofs.Checking.{and-left, and-right, done}
+
+-- NO SECOND ANSWER FITS: neither another number, place or count, nor another byte.
+pub record Same (a b : JvAnswer) (p q t u : List ℕ) : Type 0 where
+  pub answer : a ≡ b
+  pub colours : p ≡ q
+  pub tagBytes : t ≡ u
+
+paints-once :
+    {due : JvAnswer} {colours tagBytes picture tags : List ℕ} (a b : JvAnswer) (p q t u : List ℕ) → Paints due colours tagBytes picture tags a p t →
+    Paints due colours tagBytes picture tags b q u → Same a b p q t u
+paints-once a b p q t u x y =
+    record {
+      answer = x .answered ∙ sym (y .answered);
+      colours = x .painted ∙ sym (y .painted);
+      tagBytes = x .tagged ∙ sym (y .tagged);
+    }
+
+pub paint-row-once :
+    (list memory : List ℕ) (width height row limit : ℕ) (picture tags : List ℕ) (a b : JvAnswer) (p q t u : List ℕ) →
+    PaintRowAnswer list memory width height row limit picture tags a p t →
+    PaintRowAnswer list memory width height row limit picture tags b q u → Same a b p q t u
+unfolding PaintRowAnswer
+paint-row-once list memory width height row limit picture tags a b p q t u x y = paints-once a b p q t u x y
+
+pub paint-once :
+    (list memory : List ℕ) (width height limit : ℕ) (picture tags : List ℕ) (a b : JvAnswer) (p q t u : List ℕ) →
+    PaintAnswer list memory width height limit picture tags a p t → PaintAnswer list memory width height limit picture tags b q u →
+    Same a b p q t u
+unfolding PaintAnswer
+paint-once list memory width height limit picture tags a b p q t u x y = paints-once a b p q t u x y
+
+-- LENGTHS. A run of three bytes a pixel, by a division.
+
+and-false : (a b : Bool) → (a ≡ true → b ≡ true → ⊥) → (a && b) ≡ false
+and-false true true h = absurd (h refl refl)
+and-false true false h = refl
+and-false false b h = refl
+
+thirds : (n p : ℕ) → (eqb (n % 3) 0 && eqb (n / 3) p) ≡ eqb n (3 * p)
+thirds n p = go (eqb n (3 * p)) refl
+  where
+    go : (b : Bool) → eqb n (3 * p) ≡ b → (eqb (n % 3) 0 && eqb (n / 3) p) ≡ b
+    go true e =
+        let h : n ≡ 3 * p = eqb-true n (3 * p) e in
+        let r : n % 3 ≡ 0 = omega (arith, h) in
+        let q : n / 3 ≡ p = omega (arith, h) in
+        rw (eq-eqb (n % 3) 0 r, eq-eqb (n / 3) p q) refl
+    go false e = and-false _ _ (λ r q. eqb-false n (3 * p) e (omega (arith, eqb-true (n % 3) 0 r, eqb-true (n / 3) p q)))
+
+pub lent-told :
+    (width rows picture tags : ℕ) →
+    (eqb (picture % 3) 0 && eqb (picture / 3) (rows * width) && eqb tags (rows * width)) ≡ isLent width rows picture tags
+unfolding isLent
+lent-told width rows picture tags = rw (thirds picture (rows * width), mul-left-comm 3 rows width) refl
+
+-- what it says that these are the lengths of so many rows
+lent-lends : (width rows picture tags : ℕ) → isLent width rows picture tags ≡ true → (picture ≡ rows * (3 * width)) × (tags ≡ rows * width)
+unfolding isLent
+lent-lends width rows picture tags e =
+    let colours = eqb picture (rows * (3 * width)) in
+    let tagBytes = eqb tags (rows * width) in
+    (eqb-true picture (rows * (3 * width)) (and-left colours tagBytes e), eqb-true tags (rows * width) (and-right colours tagBytes e))
+
+pub row-lends : (answer : Bool) (width height row picture tags : ℕ) → answer ≡ isLent width 1 picture tags → Lends (ltb row height && answer) width height row 1 picture tags
+row-lends answer width height row picture tags h e =
+    (omega (arith, ltb-true row height (and-left (ltb row height) answer e)), lent-lends width 1 picture tags (sym h ∙ and-right (ltb row height) answer e))
+
+pub frame-lends : (answer : Bool) (width height picture tags : ℕ) → answer ≡ isLent width height picture tags → Lends answer width height 0 height picture tags
+frame-lends answer width height picture tags h e = (omega arith, lent-lends width height picture tags (sym h ∙ e))
+
+-- WHAT IS PAINTED. Where the number is 0, all that painting takes is there.
+pub may-paint :
+    (lent : Bool) (list : List ℕ) (memory width height first count limit picture tags : ℕ) (answer : JvAnswer) →
+    answer ≡ answerOf list memory width height limit lent → answer .number ≡ 0 → Lends lent width height first count picture tags →
+    ((length list ≤ 8192) × (memory ≤ 2 ^ 20)) ×
+    ((first + count ≤ 600) × ((width ≤ 800) × ((picture ≡ count * (3 * width)) × (tags ≡ count * width))))
+may-paint lent list memory width height first count limit picture tags answer e z l =
+    let m = done list memory width height limit lent (sym (ap (λ (a : JvAnswer). a .number) e) ∙ z) in
+    let r = l (m .runs) in
+    ((m .list, m .memory), (le-trans (r .0) (m .height), (m .width, r .1)))
+
+-- with another number
+pub left-as-lent :
+    (lent : Bool) (list memory : List ℕ) (width height first count limit : ℕ) (picture tags : List ℕ) (answer : JvAnswer) →
+    answer ≡ answerOf list (length memory) width height limit lent → (answer .number ≡ 0 → ⊥) →
+    RowsAnswer lent list memory width height first count limit picture tags answer picture tags
+unfolding RowsAnswer leftBy
+left-as-lent lent list memory width height first count limit picture tags answer e z =
+    let due = answerOf list (length memory) width height limit lent in
+    let n : due .number ≡ 0 → ⊥ = λ d. z (ap (λ (a : JvAnswer). a .number) e ∙ d) in
+    record { answered = e; painted = rw (ne-eqb (due .number) 0 n) refl; tagged = rw (ne-eqb (due .number) 0 n) refl }
+
+-- with number 0
+pub rows-painted :
+    (lent : Bool) (list memory : List ℕ) (width height first count limit : ℕ) (picture tags : List ℕ) (answer : JvAnswer) (p t : List ℕ) →
+    answer ≡ answerOf list (length memory) width height limit lent → answer .number ≡ 0 →
+    (p ≡ coloursFrom memory (ran list memory limit .actions) width first count) ×
+    (t ≡ tagsFrom memory (ran list memory limit .actions) width first count) →
+    RowsAnswer lent list memory width height first count limit picture tags answer p t
+unfolding RowsAnswer leftBy
+rows-painted lent list memory width height first count limit picture tags answer p t e z h =
+    let due = answerOf list (length memory) width height limit lent in
+    let n : due .number ≡ 0 = sym (ap (λ (a : JvAnswer). a .number) e) ∙ z in
+    record { answered = e; painted = rw (eq-eqb (due .number) 0 n) (h .0); tagged = rw (eq-eqb (due .number) 0 n) (h .1) }
+
+-- FROM ANY ROWS TO ONE AND TO ALL. One row from `row` on is that row.
+pub one-row :
+    (answer : Bool) (list memory : List ℕ) (width height row limit : ℕ) (picture tags : List ℕ) (a : JvAnswer) (p t : List ℕ) →
+    answer ≡ isLent width 1 (length picture) (length tags) →
+    RowsAnswer (ltb row height && answer) list memory width height row 1 limit picture tags a p t →
+    PaintRowAnswer list memory width height row limit picture tags a p t
+unfolding RowsAnswer PaintRowAnswer stacked
+one-row answer list memory width height row limit picture tags a p t e x =
+    subst
+    (λ (y : ℕ).
+    Paints
+    (answerOf list (length memory) width height limit (ltb row height && isLent width 1 (length picture) (length tags)))
+    (rowColours memory (ran list memory limit .actions) width y)
+    (rowTags memory (ran list memory limit .actions) width y)
+    picture
+    tags
+    a
+    p
+    t)
+    (add-zero row)
+    (subst (λ (b : Bool). RowsAnswer (ltb row height && b) list memory width height row 1 limit picture tags a p t) e x)
+
+pub all-rows :
+    (answer : Bool) (list memory : List ℕ) (width height limit : ℕ) (picture tags : List ℕ) (a : JvAnswer) (p t : List ℕ) →
+    answer ≡ isLent width height (length picture) (length tags) →
+    RowsAnswer answer list memory width height 0 height limit picture tags a p t →
+    PaintAnswer list memory width height limit picture tags a p t
+unfolding RowsAnswer PaintAnswer
+all-rows answer list memory width height limit picture tags a p t e =
+    subst (λ (b : Bool). RowsAnswer b list memory width height 0 height limit picture tags a p t) e
