@@ -9,6 +9,7 @@ int main(void)
     check_shapes_by_hand();
     check_pixels_by_hand();
     check_bitmaps_by_hand();
+    check_many_by_hand();
     check_refusals_by_hand();
     return end_checks();
 }

@@ -5,6 +5,7 @@
 void check_shapes_by_hand(void);
 void check_pixels_by_hand(void);
 void check_bitmaps_by_hand(void);
+void check_many_by_hand(void);
 void check_refusals_by_hand(void);
 
 #endif

@@ -1,0 +1,56 @@
+/* Lists of so many actions that the library does not keep them all while it paints: on both sides of that number, and
+   the most that one list holds. Points of one pixel each go over a small frame again and again, and each adds 1. */
+#include "pictures_by_hand.h"
+
+#include <stdio.h>
+
+#include "hand_pictures.h"
+
+enum { WIDTH = 40, HEIGHT = 25, PIXELS = WIDTH * HEIGHT, MOST_LIST_WORDS = 2048 };
+
+/* Points in the order of the pixels, from the first again after the last. */
+static size_t write_points(uint32_t words[MOST_LIST_WORDS], uint32_t points)
+{
+    static const uint32_t before[] = { COLOR_RGB(1, 1, 1), BLEND_FUNC(1, 1), POINT_SIZE(0), BEGIN(POINTS) };
+    size_t count = 0;
+    while (count < LENGTH(before)) {
+        words[count] = before[count];
+        count++;
+    }
+    for (uint32_t n = 0; n < points; n++)
+        words[count++] = VERTEX2II(n % PIXELS % WIDTH, n % PIXELS / WIDTH, 0, 0);
+    words[count++] = DISPLAY();
+    return count;
+}
+
+/* How often the points came by, as a sign. */
+static char sign_of(uint32_t pixel, uint32_t points)
+{
+    uint32_t times = points / PIXELS + (pixel < points % PIXELS ? 1 : 0);
+    return ".123"[times];
+}
+
+static void check_points(uint32_t points)
+{
+    static uint32_t words[MOST_LIST_WORDS];
+    static char signs[HEIGHT][WIDTH + 1];
+    const char *rows[HEIGHT];
+    char name[32];
+    for (uint32_t y = 0; y < HEIGHT; y++) {
+        for (uint32_t x = 0; x < WIDTH; x++)
+            signs[y][x] = sign_of(y * WIDTH + x, points);
+        rows[y] = signs[y];
+    }
+    snprintf(name, sizeof name, "%u points", points);
+    check_picture(__FILE__, &(const hand_picture){ CASE(name), .words = words, .count = write_points(words, points),
+                                                   .rows = rows, .height = HEIGHT,
+                                                   WHERE({ '1', { 1, 1, 1, 255 } }, { '2', { 2, 2, 2, 255 } },
+                                                         { '3', { 3, 3, 3, 255 } }) });
+}
+
+void check_many_by_hand(void)
+{
+    static const uint32_t numbers[] = { 1, 999, 1000, 1022, 1023, 1024, 1025, 1026, 2000, 2043 };
+    for (size_t n = 0; n < LENGTH(numbers); n++)
+        check_points(numbers[n]);
+}
