@@ -1,5 +1,5 @@
 -- A row swept column by column.
-use mathlib.Core.Bool.{Bool, true, false, cond, _&&_}
+use mathlib.Core.Bool.{Bool, true, false, cond, _&&_, false≢true}
 use mathlib.Core.Logic.{_⊎_, inl, inr, ⊎-elim, ⊎-swap}
 use mathlib.Core.List.{List}
 use mathlib.Core.Path.{_≡_, refl, sym, _∙_, ap}
@@ -14,16 +14,17 @@ use Rattle.action.specs.declared.Drawing.{Drawing}
 use Rattle.action.specs.declared.ink.Masks.{Masks}
 use Rattle.pixel.specs.declared.Pixel.{Pixel}
 use Rattle.pixel.specs.declared.plain.Fill.{Fill}
+use Rattle.pixel.specs.declared.plain.Plain.{Plain}
 use Rattle.pixel.specs.declared.plain.Plain.the-variants as p
 use Rattle.pixel.specs.Plain.{filled}
 use Rattle.shape.specs.declared.Chord.{Chord}
 use Rattle.shape.specs.Cover.{reaches, between}
-use Rattle.shape.specs.OneRow.{Reached, holdsIn}
+use Rattle.shape.specs.OneRow.{Reached, Sampled, holdsIn}
 use Rattle.units.specs.declared.Pixels.{Pixels}
 use Rattle.units.proofs.Meaning.{pixels-at}
 use Rattle.units.specs.Units.{PixelOf, pixelAt, countBefore}
 use Rattle.paint.specs.Picture.{changed, drawnAt, outlineOf}
-use Rattle.paint.specs.Runs.{Lent, PlainDrawing, Touched, Swept, Drawn, change, held, pixelIn}
+use Rattle.paint.specs.Runs.{Lent, PlainDrawing, PlainOver, Touched, Swept, Drawn, change, held, pixelIn}
 
 pub swept-none : (from : ℕ) (step : ℕ → Pixel → Pixel) (old : ℕ → Pixel) → Swept from from step old old
 swept-none from step old = record { inside = λ k h l. absurd (none k h l); outside = λ k h. refl }
@@ -147,6 +148,22 @@ pub held-same :
     (chord : Chord) (step step′ : ℕ → Pixel → Pixel) (x : ℕ) (p : Pixel) → step x p ≡ step′ x p → held chord step x p ≡ held chord step′ x p
 unfolding held
 held-same chord step step′ x p e = ap (λ (q : Pixel). cond (holdsIn chord (pixelAt x)) q p) e
+
+-- a plain way over a chord
+abbrev pub isWipe : Plain → Bool
+isWipe p.Nothing = false
+isWipe (p.Fill fill) = false
+isWipe (p.Wipe pixel) = true
+isWipe p.Each = false
+
+pub over-any : (chord : Chord) (masks : Masks) (drawing : Drawing) (plain : Plain) → isWipe plain ≡ false → PlainDrawing masks drawing plain → PlainOver chord masks drawing plain
+over-any chord masks drawing plain other plainly =
+    record { plainly = plainly; flat = λ with e. absurd (false≢true (sym other ∙ ap isWipe e)) }
+
+pub over-flat :
+    (chord : Chord) (masks : Masks) (drawing : Drawing) (plain : Plain) → PlainDrawing masks drawing plain →
+    ((p : Pixels) → Sampled p → holdsIn chord p ≡ true) → PlainOver chord masks drawing plain
+over-flat chord masks drawing plain plainly all = record { plainly = plainly; flat = λ with e x h. all (pixelAt x) (omega arith) }
 
 -- the short ways: what they make of a column is what the drawing makes of it
 module _ (memory : List ℕ) (masks : Masks) (drawing : Drawing) (q : Pixels) (chord : Chord) (from to : ℕ) (old now : ℕ → Pixel) where

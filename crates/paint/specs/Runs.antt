@@ -21,6 +21,8 @@ use Rattle.shape.specs.declared.Chord.{Chord}
 use Rattle.shape.specs.OneRow.{holdsIn}
 use Rattle.units.specs.declared.Pixels.{Pixels}
 use Rattle.units.specs.Units.{pixelAt}
+use Rattle.pixel.specs.declared.plain.Plain.the-variants as p
+use Rattle.paint.specs.declared.row.Brush.{Brush}
 use Rattle.paint.specs.declared.row.Texture.{Texture}
 use Rattle.paint.specs.declared.row.Texture.the-variants as t
 use Rattle.paint.specs.Picture.{changed, drawnAt, drawnBy}
@@ -65,12 +67,20 @@ unfoldable pub texelIn : Texture → List ℕ → Pixels → Pixels → Colour
 texelIn t.White memory p q = white
 texelIn (t.Of bitmap) memory p q = texelAt bitmap (p .0 - bitmap .area .left .0) (q .0 - bitmap .area .top .0) memory
 
-abbrev pub inked : List ℕ → Masks → Ink → Texture → Pixels → ℕ → Pixel → Pixel
-inked memory masks ink texture q x before = painted ink masks (texelIn texture memory (pixelAt x) q) before
+abbrev pub inked : List ℕ → Brush → Pixels → ℕ → Pixel → Pixel
+inked memory brush q x before = painted (brush .ink) (brush .masks) (texelIn (brush .texture) memory (pixelAt x) q) before
+
+abbrev pub brushOf : Texture → Ink → Masks → Brush
+brushOf texture ink masks = record { texture = texture; ink = ink; masks = masks }
 
 -- a drawing that does the same to every pixel that it covers
 abbrev pub PlainDrawing : Masks → Drawing → Plain → Type 0
 PlainDrawing masks drawing plain = (memory : List ℕ) (p q : Pixels) → PlainBy (changed memory masks drawing p q) plain
+
+-- the same over a chord, of which a wiped one holds every column of a frame
+pub record PlainOver (chord : Chord) (masks : Masks) (drawing : Drawing) (plain : Plain) : Type 0 where
+  pub plainly : PlainDrawing masks drawing plain
+  pub flat : (with : Pixel) → plain ≡ p.Wipe with → (x : ℕ) → x < 800 → holdsIn chord (pixelAt x) ≡ true
 
 -- row q after one action more, and after a list of them
 abbrev pub Drawn : List ℕ → Action → ℕ → Pixels → (ℕ → Pixel) → (ℕ → Pixel) → Type 0

@@ -5,7 +5,7 @@ ghost use Prim.Native.Nat.{ℕ, _<_, _≤_, _-_, _^_};
 ghost use Rattle.pixel.specs.Plain.{filled};
 ghost use Rattle.pixel.specs.Pixel.{cleared};
 ghost use Rattle.paint.specs.Picture.{isAny, outlineOf};
-ghost use Rattle.paint.specs.Runs.{Lent, Swept, Touched, PlainDrawing, Drawn, change, held, inked, pixelIn, texelIn};
+ghost use Rattle.paint.specs.Runs.{Lent, Swept, Touched, PlainDrawing, PlainOver, Drawn, brushOf, change, held, inked, pixelIn, texelIn};
 use crate::point;
 use action::Action;
 use action::Bitmap;
@@ -21,10 +21,26 @@ use shape::Chord;
 use shape::Outline;
 use units::Pixels;
 
+// The columns of a row that an action can reach, from the one on and before the other; which of them it does reach, the
+// chord tells.
+pub struct Stretch {
+    pub from: usize,
+    pub to: usize,
+    pub width: usize,
+    pub chord: Chord,
+}
+
 // Where the texels of a drawing come from.
 pub enum Texture {
     White,
     Of(Bitmap),
+}
+
+// What a point, a rectangle or a bitmap is drawn with.
+pub struct Brush {
+    pub texture: Texture,
+    pub ink: Ink,
+    pub masks: Masks,
 }
 
 fn is_any(clear: Clear) -> bool
@@ -52,7 +68,7 @@ pub fn outline(drawing: Drawing) -> Outline
 }
 
 // A bitmap's texels differ, so that nothing is told of it.
-fn plainly(drawing: Drawing, masks: Masks) -> Plain
+fn plainly_drawn(drawing: Drawing, masks: Masks) -> Plain
     ensures { λ r. ⌜ PlainDrawing masks drawing r ⌝ }
 {
     match drawing {
@@ -60,6 +76,45 @@ fn plainly(drawing: Drawing, masks: Masks) -> Plain
         Drawing::Point(_, ink) => pixel::plain_ink(ink, masks),
         Drawing::Rectangle(_, ink) => pixel::plain_ink(ink, masks),
         Drawing::Bitmap(_, _) => Plain::Each,
+    }
+}
+
+// Nothing is told either of a CLEAR over a chord that does not hold each of its columns.
+fn plainly(drawing: Drawing, masks: Masks, chord: Chord) -> Plain
+    ensures { λ r. ⌜ PlainOver chord masks drawing r ⌝ }
+{
+    let plain = plainly_drawn(drawing, masks);
+    match plain {
+        Plain::Nothing => Plain::Nothing,
+        Plain::Fill(with) => Plain::Fill(with),
+        Plain::Wipe(with) => if chord.is_flat() {
+            Plain::Wipe(with)
+        } else {
+            Plain::Each
+        },
+        Plain::Each => Plain::Each,
+    }
+}
+
+impl Brush {
+    fn plain(ink: Ink, masks: Masks) -> Brush
+        ensures { λ r. ⌜ r ≡ brushOf Texture.White ink masks ⌝ }
+    {
+        Brush {
+            texture: Texture::White,
+            ink: ink,
+            masks: masks,
+        }
+    }
+
+    fn textured(bitmap: Bitmap, ink: Ink, masks: Masks) -> Brush
+        ensures { λ r. ⌜ r ≡ brushOf (Texture.Of bitmap) ink masks ⌝ }
+    {
+        Brush {
+            texture: Texture::Of(bitmap),
+            ink: ink,
+            masks: masks,
+        }
     }
 }
 
@@ -84,313 +139,212 @@ fn texel_at(texture: Texture, p: Pixels, q: Pixels, memory: &[u8]) -> Colour
 }
 
 fn wipe_columns(
-    from: usize,
-    to: usize,
+    stretch: Stretch,
     with: Pixel,
-    width: usize,
     picture: &mut [u8],
     tags: &mut [u8],
     alpha: &mut [u8],
     stencil: &mut [u8],
 )
-    requires { ⌜ (to ≤ width) × Lent width (now picture) (now tags) (now alpha) (now stencil) ⌝ }
-    ensures { λ _. ⌜ Swept from to (λ _ _. with) (pixelIn (now (picture .entry)) (now (tags .entry)) (now (alpha .entry)) (now (stencil .entry))) (pixelIn (now (picture .exit)) (now (tags .exit)) (now (alpha .exit)) (now (stencil .exit))) ⌝ }
+    requires { ⌜ (stretch .to ≤ stretch .width) × Lent (stretch .width) (now picture) (now tags) (now alpha) (now stencil) ⌝ }
+    ensures { λ _. ⌜ Swept (stretch .from) (stretch .to) (λ _ _. with) (pixelIn (now (picture .entry)) (now (tags .entry)) (now (alpha .entry)) (now (stencil .entry))) (pixelIn (now (picture .exit)) (now (tags .exit)) (now (alpha .exit)) (now (stencil .exit))) ⌝ }
 {
-    let mut x = from;
-    while x < to {
-        point::write(x, with, width, picture, tags, alpha, stencil);
+    let mut x = stretch.from;
+    while x < stretch.to {
+        point::write(x, with, stretch.width, picture, tags, alpha, stencil);
         x += 1;
     }
 }
 
 fn fill_column(
     x: usize,
-    chord: Chord,
+    stretch: Stretch,
     with: Fill,
-    width: usize,
     picture: &mut [u8],
     tags: &mut [u8],
     alpha: &mut [u8],
     stencil: &[u8],
 )
-    requires { ⌜ (x < width) × Lent width (now picture) (now tags) (now alpha) (now stencil) ⌝ }
-    ensures { λ _. ⌜ Touched x (held chord (λ _. filled with) x) (pixelIn (now (picture .entry)) (now (tags .entry)) (now (alpha .entry)) (now (stencil .entry))) (pixelIn (now (picture .exit)) (now (tags .exit)) (now (alpha .exit)) (now (stencil .entry))) ⌝ }
+    requires { ⌜ (x < stretch .width) × Lent (stretch .width) (now picture) (now tags) (now alpha) (now stencil) ⌝ }
+    ensures { λ _. ⌜ Touched x (held (stretch .chord) (λ _. filled with) x) (pixelIn (now (picture .entry)) (now (tags .entry)) (now (alpha .entry)) (now (stencil .entry))) (pixelIn (now (picture .exit)) (now (tags .exit)) (now (alpha .exit)) (now (stencil .entry))) ⌝ }
 {
+    let chord = stretch.chord;
     if chord.holds(Pixels::of(x as u32)) {
-        point::fill(x, with, width, picture, tags, alpha, stencil);
+        point::fill(x, with, stretch.width, picture, tags, alpha, stencil);
     }
 }
 
 fn fill_columns(
-    from: usize,
-    to: usize,
-    chord: Chord,
+    stretch: Stretch,
     with: Fill,
-    width: usize,
     picture: &mut [u8],
     tags: &mut [u8],
     alpha: &mut [u8],
     stencil: &[u8],
 )
-    requires { ⌜ (to ≤ width) × Lent width (now picture) (now tags) (now alpha) (now stencil) ⌝ }
-    ensures { λ _. ⌜ Swept from to (held chord (λ _. filled with)) (pixelIn (now (picture .entry)) (now (tags .entry)) (now (alpha .entry)) (now (stencil .entry))) (pixelIn (now (picture .exit)) (now (tags .exit)) (now (alpha .exit)) (now (stencil .entry))) ⌝ }
+    requires { ⌜ (stretch .to ≤ stretch .width) × Lent (stretch .width) (now picture) (now tags) (now alpha) (now stencil) ⌝ }
+    ensures { λ _. ⌜ Swept (stretch .from) (stretch .to) (held (stretch .chord) (λ _. filled with)) (pixelIn (now (picture .entry)) (now (tags .entry)) (now (alpha .entry)) (now (stencil .entry))) (pixelIn (now (picture .exit)) (now (tags .exit)) (now (alpha .exit)) (now (stencil .entry))) ⌝ }
 {
-    let mut x = from;
-    while x < to {
-        fill_column(x, chord, with, width, picture, tags, alpha, stencil);
+    let mut x = stretch.from;
+    while x < stretch.to {
+        fill_column(x, stretch, with, picture, tags, alpha, stencil);
         x += 1;
     }
 }
 
 fn clear_column(
     x: usize,
-    chord: Chord,
+    stretch: Stretch,
     clear: Clear,
     masks: Masks,
-    width: usize,
     picture: &mut [u8],
     tags: &mut [u8],
     alpha: &mut [u8],
     stencil: &mut [u8],
 )
-    requires { ⌜ (x < width) × Lent width (now picture) (now tags) (now alpha) (now stencil) ⌝ }
-    ensures { λ _. ⌜ Touched x (held chord (λ _. cleared clear masks) x) (pixelIn (now (picture .entry)) (now (tags .entry)) (now (alpha .entry)) (now (stencil .entry))) (pixelIn (now (picture .exit)) (now (tags .exit)) (now (alpha .exit)) (now (stencil .exit))) ⌝ }
+    requires { ⌜ (x < stretch .width) × Lent (stretch .width) (now picture) (now tags) (now alpha) (now stencil) ⌝ }
+    ensures { λ _. ⌜ Touched x (held (stretch .chord) (λ _. cleared clear masks) x) (pixelIn (now (picture .entry)) (now (tags .entry)) (now (alpha .entry)) (now (stencil .entry))) (pixelIn (now (picture .exit)) (now (tags .exit)) (now (alpha .exit)) (now (stencil .exit))) ⌝ }
 {
+    let chord = stretch.chord;
     if chord.holds(Pixels::of(x as u32)) {
-        let before = point::read(x, width, picture, tags, alpha, stencil);
+        let before = point::read(x, stretch.width, picture, tags, alpha, stencil);
         let after = pixel::clear(clear, masks, before);
-        point::write(x, after, width, picture, tags, alpha, stencil);
+        point::write(x, after, stretch.width, picture, tags, alpha, stencil);
     }
 }
 
 fn clear_columns(
-    from: usize,
-    to: usize,
-    chord: Chord,
+    stretch: Stretch,
     clear: Clear,
     masks: Masks,
-    width: usize,
     picture: &mut [u8],
     tags: &mut [u8],
     alpha: &mut [u8],
     stencil: &mut [u8],
 )
-    requires { ⌜ (to ≤ width) × Lent width (now picture) (now tags) (now alpha) (now stencil) ⌝ }
-    ensures { λ _. ⌜ Swept from to (held chord (λ _. cleared clear masks)) (pixelIn (now (picture .entry)) (now (tags .entry)) (now (alpha .entry)) (now (stencil .entry))) (pixelIn (now (picture .exit)) (now (tags .exit)) (now (alpha .exit)) (now (stencil .exit))) ⌝ }
+    requires { ⌜ (stretch .to ≤ stretch .width) × Lent (stretch .width) (now picture) (now tags) (now alpha) (now stencil) ⌝ }
+    ensures { λ _. ⌜ Swept (stretch .from) (stretch .to) (held (stretch .chord) (λ _. cleared clear masks)) (pixelIn (now (picture .entry)) (now (tags .entry)) (now (alpha .entry)) (now (stencil .entry))) (pixelIn (now (picture .exit)) (now (tags .exit)) (now (alpha .exit)) (now (stencil .exit))) ⌝ }
 {
-    let mut x = from;
-    while x < to {
-        clear_column(x, chord, clear, masks, width, picture, tags, alpha, stencil);
+    let mut x = stretch.from;
+    while x < stretch.to {
+        clear_column(x, stretch, clear, masks, picture, tags, alpha, stencil);
         x += 1;
     }
 }
 
 fn ink_column(
     x: usize,
-    chord: Chord,
-    texture: Texture,
-    ink: Ink,
-    masks: Masks,
+    stretch: Stretch,
+    brush: Brush,
     q: Pixels,
     memory: &[u8],
-    width: usize,
     picture: &mut [u8],
     tags: &mut [u8],
     alpha: &mut [u8],
     stencil: &mut [u8],
 )
-    requires { ⌜ (x < width) × Lent width (now picture) (now tags) (now alpha) (now stencil) ⌝ }
-    ensures { λ _. ⌜ Touched x (held chord (inked (now (memory .entry)) masks ink texture q) x) (pixelIn (now (picture .entry)) (now (tags .entry)) (now (alpha .entry)) (now (stencil .entry))) (pixelIn (now (picture .exit)) (now (tags .exit)) (now (alpha .exit)) (now (stencil .exit))) ⌝ }
+    requires { ⌜ (x < stretch .width) × Lent (stretch .width) (now picture) (now tags) (now alpha) (now stencil) ⌝ }
+    ensures { λ _. ⌜ Touched x (held (stretch .chord) (inked (now (memory .entry)) brush q) x) (pixelIn (now (picture .entry)) (now (tags .entry)) (now (alpha .entry)) (now (stencil .entry))) (pixelIn (now (picture .exit)) (now (tags .exit)) (now (alpha .exit)) (now (stencil .exit))) ⌝ }
 {
+    let chord = stretch.chord;
     let p = Pixels::of(x as u32);
     if chord.holds(p) {
+        let texture = brush.texture;
+        let ink = brush.ink;
+        let masks = brush.masks;
         let texel = texel_at(texture, p, q, memory);
-        let before = point::read(x, width, picture, tags, alpha, stencil);
+        let before = point::read(x, stretch.width, picture, tags, alpha, stencil);
         let after = pixel::paint(ink, masks, texel, before);
-        point::write(x, after, width, picture, tags, alpha, stencil);
+        point::write(x, after, stretch.width, picture, tags, alpha, stencil);
     }
 }
 
 fn ink_columns(
-    from: usize,
-    to: usize,
-    chord: Chord,
-    texture: Texture,
-    ink: Ink,
-    masks: Masks,
+    stretch: Stretch,
+    brush: Brush,
     q: Pixels,
     memory: &[u8],
-    width: usize,
     picture: &mut [u8],
     tags: &mut [u8],
     alpha: &mut [u8],
     stencil: &mut [u8],
 )
-    requires { ⌜ (to ≤ width) × Lent width (now picture) (now tags) (now alpha) (now stencil) ⌝ }
-    ensures { λ _. ⌜ Swept from to (held chord (inked (now (memory .entry)) masks ink texture q)) (pixelIn (now (picture .entry)) (now (tags .entry)) (now (alpha .entry)) (now (stencil .entry))) (pixelIn (now (picture .exit)) (now (tags .exit)) (now (alpha .exit)) (now (stencil .exit))) ⌝ }
+    requires { ⌜ (stretch .to ≤ stretch .width) × Lent (stretch .width) (now picture) (now tags) (now alpha) (now stencil) ⌝ }
+    ensures { λ _. ⌜ Swept (stretch .from) (stretch .to) (held (stretch .chord) (inked (now (memory .entry)) brush q)) (pixelIn (now (picture .entry)) (now (tags .entry)) (now (alpha .entry)) (now (stencil .entry))) (pixelIn (now (picture .exit)) (now (tags .exit)) (now (alpha .exit)) (now (stencil .exit))) ⌝ }
 {
-    let mut x = from;
-    while x < to {
-        ink_column(
-            x,
-            chord,
-            texture,
-            ink,
-            masks,
-            q,
-            memory,
-            width,
-            picture,
-            tags,
-            alpha,
-            stencil,
-        );
+    let mut x = stretch.from;
+    while x < stretch.to {
+        ink_column(x, stretch, brush, q, memory, picture, tags, alpha, stencil);
         x += 1;
     }
 }
 
-// Each column that is held, by the pixel before.
+// Each column that is reached, by the pixel before.
 fn draw_columns(
-    from: usize,
-    to: usize,
-    chord: Chord,
+    stretch: Stretch,
     drawing: Drawing,
     masks: Masks,
     q: Pixels,
     memory: &[u8],
-    width: usize,
     picture: &mut [u8],
     tags: &mut [u8],
     alpha: &mut [u8],
     stencil: &mut [u8],
 )
-    requires { ⌜ (to ≤ width) × Lent width (now picture) (now tags) (now alpha) (now stencil) ⌝ }
-    ensures { λ _. ⌜ Swept from to (held chord (change (now (memory .entry)) masks drawing q)) (pixelIn (now (picture .entry)) (now (tags .entry)) (now (alpha .entry)) (now (stencil .entry))) (pixelIn (now (picture .exit)) (now (tags .exit)) (now (alpha .exit)) (now (stencil .exit))) ⌝ }
+    requires { ⌜ (stretch .to ≤ stretch .width) × Lent (stretch .width) (now picture) (now tags) (now alpha) (now stencil) ⌝ }
+    ensures { λ _. ⌜ Swept (stretch .from) (stretch .to) (held (stretch .chord) (change (now (memory .entry)) masks drawing q)) (pixelIn (now (picture .entry)) (now (tags .entry)) (now (alpha .entry)) (now (stencil .entry))) (pixelIn (now (picture .exit)) (now (tags .exit)) (now (alpha .exit)) (now (stencil .exit))) ⌝ }
 {
     match drawing {
         Drawing::Clear(clear) => {
-            clear_columns(
-                from,
-                to,
-                chord,
-                clear,
-                masks,
-                width,
-                picture,
-                tags,
-                alpha,
-                stencil,
-            );
+            clear_columns(stretch, clear, masks, picture, tags, alpha, stencil);
         }
         Drawing::Point(_, ink) => {
-            ink_columns(
-                from,
-                to,
-                chord,
-                Texture::White,
-                ink,
-                masks,
-                q,
-                memory,
-                width,
-                picture,
-                tags,
-                alpha,
-                stencil,
-            );
+            let brush = Brush::plain(ink, masks);
+            ink_columns(stretch, brush, q, memory, picture, tags, alpha, stencil);
         }
         Drawing::Rectangle(_, ink) => {
-            ink_columns(
-                from,
-                to,
-                chord,
-                Texture::White,
-                ink,
-                masks,
-                q,
-                memory,
-                width,
-                picture,
-                tags,
-                alpha,
-                stencil,
-            );
+            let brush = Brush::plain(ink, masks);
+            ink_columns(stretch, brush, q, memory, picture, tags, alpha, stencil);
         }
         Drawing::Bitmap(bitmap, ink) => {
-            ink_columns(
-                from,
-                to,
-                chord,
-                Texture::Of(bitmap),
-                ink,
-                masks,
-                q,
-                memory,
-                width,
-                picture,
-                tags,
-                alpha,
-                stencil,
-            );
+            let brush = Brush::textured(bitmap, ink, masks);
+            ink_columns(stretch, brush, q, memory, picture, tags, alpha, stencil);
         }
     }
 }
 
-// The short ways need no pixel before: a CLEAR of everything writes columns that need not even be asked about.
-fn draw_reached(
-    from: usize,
-    to: usize,
-    chord: Chord,
+// The short ways need no pixel before. A CLEAR of everything need not even ask about the columns, where the chord holds all of them.
+fn draw_stretch(
+    stretch: Stretch,
     plain: Plain,
     drawing: Drawing,
     masks: Masks,
     q: Pixels,
     memory: &[u8],
-    width: usize,
     picture: &mut [u8],
     tags: &mut [u8],
     alpha: &mut [u8],
     stencil: &mut [u8],
 )
-    requires { ⌜ (to ≤ width) × Lent width (now picture) (now tags) (now alpha) (now stencil) ⌝ }
-    requires { ⌜ PlainDrawing masks drawing plain ⌝ }
-    ensures { λ _. ⌜ Swept from to (held chord (change (now (memory .entry)) masks drawing q)) (pixelIn (now (picture .entry)) (now (tags .entry)) (now (alpha .entry)) (now (stencil .entry))) (pixelIn (now (picture .exit)) (now (tags .exit)) (now (alpha .exit)) (now (stencil .exit))) ⌝ }
+    requires { ⌜ (stretch .to ≤ stretch .width) × Lent (stretch .width) (now picture) (now tags) (now alpha) (now stencil) ⌝ }
+    requires { ⌜ PlainOver (stretch .chord) masks drawing plain ⌝ }
+    ensures { λ _. ⌜ Swept (stretch .from) (stretch .to) (held (stretch .chord) (change (now (memory .entry)) masks drawing q)) (pixelIn (now (picture .entry)) (now (tags .entry)) (now (alpha .entry)) (now (stencil .entry))) (pixelIn (now (picture .exit)) (now (tags .exit)) (now (alpha .exit)) (now (stencil .exit))) ⌝ }
 {
     match plain {
         Plain::Nothing => {}
         Plain::Fill(with) => {
-            fill_columns(from, to, chord, with, width, picture, tags, alpha, stencil);
+            fill_columns(stretch, with, picture, tags, alpha, stencil);
         }
         Plain::Wipe(with) => {
-            if chord.is_flat() {
-                wipe_columns(from, to, with, width, picture, tags, alpha, stencil);
-            } else {
-                draw_columns(
-                    from,
-                    to,
-                    chord,
-                    drawing,
-                    masks,
-                    q,
-                    memory,
-                    width,
-                    picture,
-                    tags,
-                    alpha,
-                    stencil,
-                );
-            }
+            wipe_columns(stretch, with, picture, tags, alpha, stencil);
         }
         Plain::Each => {
             draw_columns(
-                from,
-                to,
-                chord,
+                stretch,
                 drawing,
                 masks,
                 q,
                 memory,
-                width,
                 picture,
                 tags,
                 alpha,
@@ -419,21 +373,22 @@ pub fn draw(
     let scissor = action.scissor;
     let covered = outline(drawing);
     let chord = covered.reach(scissor, width, q);
+    let plain = plainly(drawing, masks, chord);
     let left = chord.left;
     let right = chord.right;
-    let from = left.before(width) as usize;
-    let to = right.before(width) as usize;
-    let plain = plainly(drawing, masks);
-    draw_reached(
-        from,
-        to,
-        chord,
+    let stretch = Stretch {
+        from: left.before(width) as usize,
+        to: right.before(width) as usize,
+        width: width as usize,
+        chord: chord,
+    };
+    draw_stretch(
+        stretch,
         plain,
         drawing,
         masks,
         q,
         memory,
-        width as usize,
         picture,
         tags,
         alpha,

@@ -14,13 +14,13 @@ holds-requires : tie.Need-holds-requires
 holds-requires c κs = search needs
 
 read-requires : tie.Need-read-requires
-read-requires c κs = search needs
+read-requires c κs = c .before .before .before .before .before .before .before .before .before .before .before .before .pre
 
 clear-requires : tie.Need-clear-requires
 clear-requires c κs = search needs
 
 write-requires : tie.Need-write-requires
-write-requires c κs = search needs
+write-requires c κs = c .before .before .before .before .before .before .before .before .before .before .before .before .before .before .before .before .before .before .pre
 
 same-length : tie.Need-same-length
 same-length c = search needs

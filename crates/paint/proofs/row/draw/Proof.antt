@@ -10,23 +10,23 @@ outline-requires c κs = search needs
 reach-requires : tie.Need-reach-requires
 reach-requires c κs = search needs
 
+plainly-requires : tie.Need-plainly-requires
+plainly-requires c κs = search needs
+
 before-requires : tie.Need-before-requires
 before-requires c κs = search needs
 
-cast-from : tie.Need-cast-from
-cast-from c = search needs
+cast-t19 : tie.Need-cast-t19
+cast-t19 c = search needs
 
 before-requires-2 : tie.Need-before-requires-2
 before-requires-2 c κs = search needs
 
-cast-to : tie.Need-cast-to
-cast-to c = search needs
+cast-t21 : tie.Need-cast-t21
+cast-t21 c = search needs
 
-plainly-requires : tie.Need-plainly-requires
-plainly-requires c κs = search needs
-
-draw-reached-requires : tie.Need-draw-reached-requires
-draw-reached-requires c κs = ((omega (arith, c .before .before .before .before .before .before3 .ensures), c .before .before .before .before .before .before .before .before .before .before .before .before .before .before .before .before .before .before .pre .1), c .before .before .before .before .plainly .ensures)
+draw-stretch-requires : tie.Need-draw-stretch-requires
+draw-stretch-requires c κs = ((omega (arith, c .before .before .before .before .before3 .ensures), c .before .before .before .before .before .before .before .before .before .before .before .before .before .before .before .before .before .before .pre .1), c .before .before .before .before .before .before .before .before .plainly .ensures)
 
 same-length : tie.Need-same-length
 same-length c = search needs
@@ -41,7 +41,7 @@ same-length-4 : tie.Need-same-length-4
 same-length-4 c = search needs
 
 returns : tie.Need-returns
-returns c = swept-drawn _ _ _ _ _ _ _ (rw (c .before .before .before .before .before .before .before .before .before .before .before .before .before .before .before .before .before .before .before .outline .ensures) at (c .before .before .before .before .before .before .before .before .before .before .before .before .before .before .before .before .before .before .reach .ensures)) (rw (c .before .before .before .before .before .before .before .before .before .before .before .before .before .before .before .before2 .ensures, c .before .before .before .before .before .before .before .before .before .before .before .before .before .before .before3 .ensures) at (c .before .before .before .before .before .before .before .before .draw-reached .ensures))
+returns c = swept-drawn _ _ _ _ _ _ _ (rw (c .before .before .before .before .before .before .before .before .before .before .before .before .before .before .before .before .before .before .before .outline .ensures) at (c .before .before .before .before .before .before .before .before .before .before .before .before .before .before .before .before .before .before .reach .ensures)) (rw (c .before .before .before .before .before .before .before .before .before .before .before .before .before .before .before2 .ensures, c .before .before .before .before .before .before .before .before .before .before .before .before .before .before3 .ensures) at (c .before .before .before .before .before .before .before .before .draw-stretch .ensures))
 
 pub draw-spec : {M : Type 1} → statement M
 draw-spec =
@@ -49,12 +49,12 @@ draw-spec =
     (tie.spec
     outline-requires
     reach-requires
-    before-requires
-    cast-from
-    before-requires-2
-    cast-to
     plainly-requires
-    draw-reached-requires
+    before-requires
+    cast-t19
+    before-requires-2
+    cast-t21
+    draw-stretch-requires
     same-length
     same-length-2
     same-length-3

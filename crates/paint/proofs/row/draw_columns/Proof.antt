@@ -13,17 +13,26 @@ clear-columns-requires c κs = search needs
 enum-known-drawing-2 : tie.Need-enum-known-drawing-2
 enum-known-drawing-2 c = search needs
 
+plain-requires : tie.Need-plain-requires
+plain-requires c κs = search needs
+
 ink-columns-requires : tie.Need-ink-columns-requires
 ink-columns-requires c κs = search needs
 
 enum-known-drawing-3 : tie.Need-enum-known-drawing-3
 enum-known-drawing-3 c = search needs
 
+plain-requires-2 : tie.Need-plain-requires-2
+plain-requires-2 c κs = search needs
+
 ink-columns-requires-2 : tie.Need-ink-columns-requires-2
 ink-columns-requires-2 c κs = search needs
 
 enum-known-drawing-4 : tie.Need-enum-known-drawing-4
 enum-known-drawing-4 c = search needs
+
+textured-requires : tie.Need-textured-requires
+textured-requires c κs = search needs
 
 ink-columns-requires-3 : tie.Need-ink-columns-requires-3
 ink-columns-requires-3 c κs = search needs
@@ -58,7 +67,7 @@ same-length-8 c = search needs
 
 returns-2 : tie.Need-returns-2
 unfolding changed texelIn
-returns-2 c = rw (c .before .before .before .before .before .before .before .before .before .before .before .before .before .before .drawing2 .given .1) (c .before .before .before .before .before .before .before .before .ink-columns .ensures)
+returns-2 c = rw (c .before .before .before .before .before .before .before .before .before .before .before .before .before .before .before .drawing2 .given .1) (rw (c .before .before .before .before .before .before .before .before .before .before .before .before .before .plain .ensures) at (c .before .before .before .before .before .before .before .before .ink-columns .ensures))
 
 same-length-9 : tie.Need-same-length-9
 same-length-9 c = search needs
@@ -74,7 +83,7 @@ same-length-12 c = search needs
 
 returns-3 : tie.Need-returns-3
 unfolding changed texelIn
-returns-3 c = rw (c .before .before .before .before .before .before .before .before .before .before .before .before .before .before .drawing3 .given .1) (c .before .before .before .before .before .before .before .before .ink-columns2 .ensures)
+returns-3 c = rw (c .before .before .before .before .before .before .before .before .before .before .before .before .before .before .before .drawing3 .given .1) (rw (c .before .before .before .before .before .before .before .before .before .before .before .before .before .plain2 .ensures) at (c .before .before .before .before .before .before .before .before .ink-columns2 .ensures))
 
 same-length-13 : tie.Need-same-length-13
 same-length-13 c = search needs
@@ -90,7 +99,7 @@ same-length-16 c = search needs
 
 returns-4 : tie.Need-returns-4
 unfolding changed texelIn
-returns-4 c = rw (c .before .before .before .before .before .before .before .before .before .before .before .before .before .before .drawing4 .given .1) (c .before .before .before .before .before .before .before .before .ink-columns3 .ensures)
+returns-4 c = rw (c .before .before .before .before .before .before .before .before .before .before .before .before .before .before .before .drawing4 .given .1) (rw (c .before .before .before .before .before .before .before .before .before .before .before .before .before .textured .ensures) at (c .before .before .before .before .before .before .before .before .ink-columns3 .ensures))
 
 pub draw-columns-spec : {M : Type 1} → statement M
 draw-columns-spec =
@@ -99,10 +108,13 @@ draw-columns-spec =
     enum-known-drawing
     clear-columns-requires
     enum-known-drawing-2
+    plain-requires
     ink-columns-requires
     enum-known-drawing-3
+    plain-requires-2
     ink-columns-requires-2
     enum-known-drawing-4
+    textured-requires
     ink-columns-requires-3
     same-length
     same-length-2

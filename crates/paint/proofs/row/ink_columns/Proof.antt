@@ -6,41 +6,41 @@ use native.Mathlib.Omega.{arith}
 use Rattle.paint.proofs.row.ink_columns.Tie as tie
 
 abbrev Inv-loop : tie.InvT-loop
-Inv-loop from to chord texture ink masks q memory width picture₀ tags₀ alpha₀ stencil₀ x₀ picture tags alpha stencil x = Sweeps from to (held chord (inked memory masks ink texture q)) picture₀ tags₀ alpha₀ stencil₀ picture tags alpha stencil x
+Inv-loop stretch brush q memory picture₀ tags₀ alpha₀ stencil₀ x₀ picture tags alpha stencil x = Sweeps (stretch .from) (stretch .to) (held (stretch .chord) (inked memory brush q)) picture₀ tags₀ alpha₀ stencil₀ picture tags alpha stencil x
 
 abbrev μ-loop : tie.MeasureT-loop
-μ-loop from to chord texture ink masks q memory width picture₀ tags₀ alpha₀ stencil₀ x₀ picture tags alpha stencil x = to - x
+μ-loop stretch brush q memory picture₀ tags₀ alpha₀ stencil₀ x₀ picture tags alpha stencil x = stretch .to - x
 
 loop-holds : tie.Need-loop-holds Inv-loop μ-loop
 loop-holds c = sweeps-none _ _ _ _ _ _ _
 
 ink-column-requires : tie.Need-ink-column-requires Inv-loop μ-loop
-ink-column-requires c κs = (omega (arith, c .before .before .before .before .loop-test .taken, c .before .before .before .before .before .before .before .before .before .before .before .pre .0), still-there (c .before .before .before .before .before .loop .inv .long) _ (c .before .before .before .before .before .before .before .before .before .before .before .pre .1))
+ink-column-requires c κs = (omega (arith, c .before .before .before .before .if1 .taken, c .before .before .before .before .before .before .before .before .before .before .before .before .pre .0), still-there (c .before .before .before .before .before .before .loop .inv .long) _ (c .before .before .before .before .before .before .before .before .before .before .before .before .pre .1))
 
 add-x : tie.Need-add-x Inv-loop μ-loop
-add-x c = omega (arith, c .before .before .before .before .before .before .before .before .before .before .before .before .before .loop-test .taken, c .before .before .before .before .before .before .before .before .before .before .before .before .before .before .before .before .before .before .before .before .pre, c .before .before .before .before .before .before .before .before .before .before .before .before .before .before .before .before .before .before .before .before .fits)
+add-x c = omega (arith, c .before .before .before .before .before .before .before .before .before .before .before .before .before .if1 .taken, c .before .before .before .before .before .before .before .before .before .before .before .before .before .before .before .before .before .before .before .before .before .pre)
 
 loop-less : tie.Need-loop-less Inv-loop μ-loop
-loop-less c = omega (arith, c .before .before .before .before .before .before .before .before .before .before .before .before .before .loop-test .taken)
+loop-less c = omega (arith, c .before .before .before .before .before .before .before .before .before .before .before .before .before .if1 .taken)
 
 loop-again : tie.Need-loop-again Inv-loop μ-loop
-loop-again c = let k = c .before .before .before .before .before .before .before .before .ink-column .kept .1 .1 .1 .1 .1 .1 .1 .1 in
-    sweeps-more _ _ _ _ _ _ _ (c .before .before .before .before .before .before .before .before .before .before .before .before .before .before .loop .inv) _ _ _ _ (c .before .before .before .before .before .before .before .before .before .before .before .before .before .loop-test .taken) (k .0) (k .1 .0) (k .1 .1 .0) (k .1 .1 .1 .0) (c .before .before .before .before .before .before .before .before .ink-column .ensures)
+loop-again c = let k = c .before .before .before .before .before .before .before .before .ink-column .kept .1 .1 .1 .1 .1 in
+    sweeps-more _ _ _ _ _ _ _ (c .before .before .before .before .before .before .before .before .before .before .before .before .before .before .before .loop .inv) _ _ _ _ (c .before .before .before .before .before .before .before .before .before .before .before .before .before .if1 .taken) (k .0) (k .1 .0) (k .1 .1 .0) (k .1 .1 .1 .0) (c .before .before .before .before .before .before .before .before .ink-column .ensures)
 
 same-length : tie.Need-same-length Inv-loop μ-loop
-same-length c = c .before .loop .inv .long .pictures
+same-length c = c .before .before .loop .inv .long .pictures
 
 same-length-2 : tie.Need-same-length-2 Inv-loop μ-loop
-same-length-2 c = c .before .loop .inv .long .tagged
+same-length-2 c = c .before .before .loop .inv .long .tagged
 
 same-length-3 : tie.Need-same-length-3 Inv-loop μ-loop
-same-length-3 c = c .before .loop .inv .long .alphas
+same-length-3 c = c .before .before .loop .inv .long .alphas
 
 same-length-4 : tie.Need-same-length-4 Inv-loop μ-loop
-same-length-4 c = c .before .loop .inv .long .stencils
+same-length-4 c = c .before .before .loop .inv .long .stencils
 
 returns : tie.Need-returns Inv-loop μ-loop
-returns c = sweeps-all _ _ _ _ _ _ _ (c .before .loop .inv) (c .loop-test .left)
+returns c = sweeps-all _ _ _ _ _ _ _ (c .before .before .loop .inv) (c .if1 .left)
 
 pub ink-columns-spec : {M : Type 1} → statement M
 ink-columns-spec =

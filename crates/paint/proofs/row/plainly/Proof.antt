@@ -1,56 +1,55 @@
+use Rattle.paint.proofs.Sweeps.{over-any, over-flat}
 use Rattle.paint.proofs.row.plainly.Statement.{statement}
-use Rattle.paint.specs.Picture.{changed}
+use Rattle.paint.specs.Runs.{PlainDrawing}
 use borrow.Author.Needs.{needs}
+use mathlib.Core.Path.{refl, subst}
 use Rattle.paint.proofs.row.plainly.Tie as tie
 
-enum-known-drawing : tie.Need-enum-known-drawing
-enum-known-drawing c = search needs
-
-plain-clear-requires : tie.Need-plain-clear-requires
-plain-clear-requires c κs = search needs
-
-enum-known-drawing-2 : tie.Need-enum-known-drawing-2
-enum-known-drawing-2 c = search needs
-
-plain-ink-requires : tie.Need-plain-ink-requires
-plain-ink-requires c κs = search needs
-
-enum-known-drawing-3 : tie.Need-enum-known-drawing-3
-enum-known-drawing-3 c = search needs
-
-plain-ink-requires-2 : tie.Need-plain-ink-requires-2
-plain-ink-requires-2 c κs = search needs
+plainly-drawn-requires : tie.Need-plainly-drawn-requires
+plainly-drawn-requires c κs = search needs
 
 enum-told : tie.Need-enum-told
 enum-told c = search needs
 
+enum-known-plain : tie.Need-enum-known-plain
+enum-known-plain c = search needs
+
+enum-known-plain-2 : tie.Need-enum-known-plain-2
+enum-known-plain-2 c = search needs
+
+is-flat-requires : tie.Need-is-flat-requires
+is-flat-requires c κs = search needs
+
+enum-told-2 : tie.Need-enum-told-2
+enum-told-2 c = search needs
+
 returns : tie.Need-returns
-unfolding changed
-returns c = λ memory p q. rw (c .before .before .drawing .given .1) (c .plain-clear .ensures)
+returns c = over-any _ _ _ _ refl (subst (PlainDrawing (c .before .before .before .args .masks) (c .before .before .before .args .drawing)) (c .enum-told .given .1) (c .before .before .plainly-drawn .ensures))
 
 returns-2 : tie.Need-returns-2
-unfolding changed
-returns-2 c = λ memory p q. rw (c .before .before .drawing2 .given .1) (c .plain-ink .ensures)
+returns-2 c = over-any _ _ _ _ refl (subst (PlainDrawing (c .before .before .before .before .args .masks) (c .before .before .before .before .args .drawing)) (c .before .plain .given .1) (c .before .before .before .plainly-drawn .ensures))
 
 returns-3 : tie.Need-returns-3
-unfolding changed
-returns-3 c = λ memory p q. rw (c .before .before .drawing3 .given .1) (c .plain-ink2 .ensures)
+returns-3 c = over-flat _ _ _ _ (subst (PlainDrawing (c .before .before .before .before .before .before .args .masks) (c .before .before .before .before .before .before .args .drawing)) (c .before .before .before .plain2 .given .1) (c .before .before .before .before .before .plainly-drawn .ensures)) (c .before .is-flat .ensures .all (c .if1 .taken))
 
 returns-4 : tie.Need-returns-4
-returns-4 c = search needs
+returns-4 c = over-any _ _ _ _ refl (λ memory p q. tt)
+
+returns-5 : tie.Need-returns-5
+returns-5 c = over-any _ _ _ _ refl (λ memory p q. tt)
 
 pub plainly-spec : {M : Type 1} → statement M
 plainly-spec =
     tie.close
     (tie.spec
-    enum-known-drawing
-    plain-clear-requires
-    enum-known-drawing-2
-    plain-ink-requires
-    enum-known-drawing-3
-    plain-ink-requires-2
+    plainly-drawn-requires
     enum-told
+    enum-known-plain
+    enum-known-plain-2
+    is-flat-requires
+    enum-told-2
     returns
     returns-2
     returns-3
-    returns-4)
+    returns-4
+    returns-5)
