@@ -1,6 +1,6 @@
 -- One row as four runs of bytes, its picture and its tags and the two work rows, and how a function changes them. No sentence of document 01 stands
 -- behind these contracts: they lead from the bytes to the pixels that Picture speaks of.
-use mathlib.Core.Bool.{Bool, true, cond}
+use mathlib.Core.Bool.{true, cond}
 use mathlib.Core.List.{List}
 use mathlib.Core.Logic.{_⊎_}
 use mathlib.Core.Path.{_≡_}
@@ -11,21 +11,21 @@ use Rattle.action.specs.declared.Drawing.{Drawing}
 use Rattle.action.specs.declared.ink.Colour.{Colour}
 use Rattle.action.specs.declared.ink.Ink.{Ink}
 use Rattle.action.specs.declared.ink.Masks.{Masks}
-use Rattle.pixel.specs.declared.Pixel.{Pixel}
-use Rattle.pixel.specs.declared.plain.Plain.{Plain}
 use Rattle.pixel.specs.Blend.{white}
 use Rattle.pixel.specs.Pixel.{painted}
 use Rattle.pixel.specs.Plain.{PlainBy}
-use Rattle.texel.specs.Texel.{texelAt}
-use Rattle.shape.specs.declared.Chord.{Chord}
-use Rattle.shape.specs.OneRow.{holdsIn}
-use Rattle.units.specs.declared.Pixels.{Pixels}
-use Rattle.units.specs.Units.{pixelAt}
+use Rattle.pixel.specs.declared.Pixel.{Pixel}
 use Rattle.pixel.specs.declared.plain.Plain.the-variants as p
-use Rattle.paint.specs.declared.row.Brush.{Brush}
-use Rattle.paint.specs.declared.row.Texture.{Texture}
-use Rattle.paint.specs.declared.row.Texture.the-variants as t
+use Rattle.pixel.specs.declared.plain.Plain.{Plain}
+use Rattle.shape.specs.OneRow.{holdsIn}
+use Rattle.shape.specs.declared.Chord.{Chord}
+use Rattle.texel.specs.Texel.{texelAt}
+use Rattle.units.specs.Units.{pixelAt}
+use Rattle.units.specs.declared.Pixels.{Pixels}
 use Rattle.paint.specs.Picture.{changed, drawnAt, drawnBy}
+use Rattle.paint.specs.declared.row.Brush.{Brush}
+use Rattle.paint.specs.declared.row.Texture.the-variants as t
+use Rattle.paint.specs.declared.row.Texture.{Texture}
 
 -- 'three bytes R G B a pixel and one tag byte in a second run. Work rows hold alpha and stencil'
 unfoldable pub pixelIn : List ℕ → List ℕ → List ℕ → List ℕ → ℕ → Pixel
