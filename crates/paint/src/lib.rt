@@ -12,6 +12,7 @@ ghost use Rattle.paint.specs.Runs.{Lent, Drawn, DrawnAll, pixelIn};
 
 mod kept;
 mod point;
+pub mod reach;
 mod row;
 
 use engine::Engine;

@@ -4,9 +4,10 @@ ghost use mathlib.Core.Path.{_≡_};
 ghost use Prim.Native.Nat.{ℕ, _<_, _≤_, _-_, _^_};
 ghost use Rattle.pixel.specs.Plain.{filled};
 ghost use Rattle.pixel.specs.Pixel.{cleared};
-ghost use Rattle.paint.specs.Picture.{isAny, outlineOf};
+ghost use Rattle.paint.specs.Picture.{outlineOf};
 ghost use Rattle.paint.specs.Runs.{Lent, Swept, Touched, PlainDrawing, PlainOver, Drawn, brushOf, change, held, inked, pixelIn, texelIn};
 use crate::point;
+use crate::reach;
 use action::Action;
 use action::Bitmap;
 use action::Clear;
@@ -18,7 +19,6 @@ use pixel::Fill;
 use pixel::Pixel;
 use pixel::Plain;
 use shape::Chord;
-use shape::Outline;
 use units::Pixels;
 
 // The columns of a row that an action can reach, from the one on and before the other; which of them it does reach, the
@@ -41,30 +41,6 @@ pub struct Brush {
     pub texture: Texture,
     pub ink: Ink,
     pub masks: Masks,
-}
-
-fn is_any(clear: Clear) -> bool
-    ensures { λ r. ⌜ r ≡ isAny clear ⌝ }
-{
-    (clear.colour != 0) | ((clear.stencil != 0) | (clear.tag != 0))
-}
-
-pub fn outline(drawing: Drawing) -> Outline
-    ensures { λ r. ⌜ r ≡ outlineOf drawing ⌝ }
-{
-    match drawing {
-        Drawing::Clear(clear) => if is_any(clear) {
-            Outline::Everything
-        } else {
-            Outline::Nothing
-        },
-        Drawing::Point(point, _) => Outline::Point(point),
-        Drawing::Rectangle(rectangle, _) => Outline::Rectangle(rectangle),
-        Drawing::Bitmap(bitmap, _) => {
-            let area = bitmap.area;
-            Outline::Area(area)
-        }
-    }
 }
 
 // A bitmap's texels differ, so that nothing is told of it.
@@ -371,7 +347,7 @@ pub fn draw(
     let drawing = action.drawing;
     let masks = action.masks;
     let scissor = action.scissor;
-    let covered = outline(drawing);
+    let covered = reach::outline(drawing);
     let chord = covered.reach(scissor, width, q);
     let plain = plainly(drawing, masks, chord);
     let left = chord.left;

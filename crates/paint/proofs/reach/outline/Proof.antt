@@ -1,8 +1,8 @@
-use Rattle.paint.proofs.row.outline.Statement.{statement}
+use Rattle.paint.proofs.reach.outline.Statement.{statement}
 use Rattle.paint.specs.Picture.{outlineOf}
 use borrow.Author.Needs.{needs}
 use mathlib.Core.Path.{_∙_, sym}
-use Rattle.paint.proofs.row.outline.Tie as tie
+use Rattle.paint.proofs.reach.outline.Tie as tie
 
 enum-known-drawing : tie.Need-enum-known-drawing
 enum-known-drawing c = search needs

@@ -1,7 +1,7 @@
 use Rattle.paint.proofs.Banding.{band-of}
-use Rattle.paint.proofs.kept.rows_of.Statement.{statement}
+use Rattle.paint.proofs.reach.rows_of.Statement.{statement}
 use borrow.Author.Needs.{needs}
-use Rattle.paint.proofs.kept.rows_of.Tie as tie
+use Rattle.paint.proofs.reach.rows_of.Tie as tie
 
 outline-requires : tie.Need-outline-requires
 outline-requires c κs = search needs

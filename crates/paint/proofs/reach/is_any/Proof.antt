@@ -1,7 +1,7 @@
-use Rattle.paint.proofs.row.is_any.Statement.{statement}
+use Rattle.paint.proofs.reach.is_any.Statement.{statement}
 use Rattle.paint.specs.Picture.{isAny}
 use mathlib.Core.Path.{refl}
-use Rattle.paint.proofs.row.is_any.Tie as tie
+use Rattle.paint.proofs.reach.is_any.Tie as tie
 
 returns : tie.Need-returns
 unfolding isAny
