@@ -1,7 +1,8 @@
 mod Banding
 mod Folds
 mod Going
+mod Mending
 mod Points
-mod Rows
-mod Stacks
+pub mod Rows
+pub mod Stacks
 mod Sweeps

@@ -3,7 +3,9 @@
 -- colour, alpha and stencil'.
 use mathlib.Core.Bool.{Bool, cond, _||_}
 use mathlib.Core.List.{List, [], _∷_, _++_}
-use Prim.Native.Nat.{ℕ, zero, suc, _+_, _-_}
+use Prim.Native.Nat.{ℕ, zero, suc, _+_, _-_, _*_}
+use lib.Dec.{eqb}
+use lib.ListN.{length, getD, take, drop}
 use Rattle.action.specs.declared.Action.{Action}
 use Rattle.action.specs.declared.Drawing.{Drawing}
 use Rattle.action.specs.declared.Drawing.the-variants as d
@@ -81,3 +83,15 @@ coloursFrom memory actions width first count = stacked (λ y. rowColours memory 
 
 abbrev pub tagsFrom : List ℕ → List Action → ℕ → ℕ → ℕ → List ℕ
 tagsFrom memory actions width first count = stacked (λ y. rowTags memory actions width (first + y)) count
+
+-- row y of a run whose rows are `wide` bytes each
+abbrev pub rowIn : List ℕ → ℕ → ℕ → List ℕ
+rowIn run wide y = take wide (drop (y * wide) run)
+
+-- 'its mark is one byte, 1 or 0'
+abbrev pub isMarked : List ℕ → ℕ → Bool
+isMarked marks y = eqb (getD marks y 0) 1
+
+-- A FRAME OF WHICH SOME ROWS ARE PAINTED: the marked rows are these, every other row keeps its lent bytes. A mark for each row
+unfoldable pub mended : List ℕ → (ℕ → List ℕ) → ℕ → List ℕ → List ℕ
+mended marks row wide lent = stacked (λ y. cond (isMarked marks y) (row y) (rowIn lent wide y)) (length marks)

@@ -7,7 +7,7 @@ ghost use Rattle.engine.specs.Run.{run, atStart};
 ghost use Rattle.units.specs.Units.{pixelAt};
 ghost use Rattle.store.specs.Store.{keptAt};
 ghost use Rattle.paint.specs.Actions.{AllBands, BandAt, Gathers, Rooms, keptUpTo};
-ghost use Rattle.paint.specs.Picture.{coloursFrom, tagsFrom, rowColours, rowTags};
+ghost use Rattle.paint.specs.Picture.{coloursFrom, tagsFrom, mended, rowColours, rowTags};
 ghost use Rattle.paint.specs.Runs.{Lent, Drawn, DrawnAll, pixelIn};
 
 mod kept;
@@ -315,6 +315,94 @@ pub fn paint_rows(
         width,
         first,
         count,
+        picture,
+        tags,
+    );
+}
+
+fn paint_each_marked(
+    gathered: Gathered,
+    numbers: &[u32],
+    places: &[u64],
+    bands: &[u32],
+    list: &[u8],
+    limit: u32,
+    memory: &[u8],
+    width: u32,
+    marks: &[u8],
+    picture: &mut [u8],
+    tags: &mut [u8],
+)
+    requires { ⌜ (length (now list) ≤ 8192) × (length (now memory) ≤ 2 ^ 20) ⌝ }
+    requires { ⌜ Gathers (now list) (length (now memory)) limit gathered (now numbers) (now places) (now bands) ⌝ }
+    requires { ⌜ (length (now marks) ≤ 600) × ((width ≤ 800) × ((length (now picture) ≡ length (now marks) * (3 * width)) × (length (now tags) ≡ length (now marks) * width))) ⌝ }
+    ensures { λ _. ⌜ now (picture .exit) ≡ mended (now (marks .entry)) (rowColours (now (memory .entry)) (run (now (list .entry)) (length (now (memory .entry))) limit atStart .actions) width) (3 * width) (now (picture .entry)) ⌝ }
+    ensures { λ _. ⌜ now (tags .exit) ≡ mended (now (marks .entry)) (rowTags (now (memory .entry)) (run (now (list .entry)) (length (now (memory .entry))) limit atStart .actions) width) width (now (tags .entry)) ⌝ }
+{
+    let wide = width as usize;
+    let mut y: usize = 0;
+    let mut a: usize = 0;
+    let mut b: usize = 0;
+    while y < marks.len() {
+        let e = a + 3 * wide;
+        let f = b + wide;
+        if marks[y] == 1 {
+            paint_row(
+                gathered,
+                numbers,
+                places,
+                bands,
+                list,
+                limit,
+                y as u32,
+                memory,
+                width,
+                &mut picture[a..e],
+                &mut tags[b..f],
+            );
+        }
+        a = e;
+        b = f;
+        y += 1;
+    }
+}
+
+// Paints the rows that are marked, each straight into its part of the runs, and leaves every other row.
+pub fn paint_marked(
+    list: &[u8],
+    memory: &[u8],
+    limit: u32,
+    width: u32,
+    marks: &[u8],
+    picture: &mut [u8],
+    tags: &mut [u8],
+)
+    requires { ⌜ (length (now list) ≤ 8192) × (length (now memory) ≤ 2 ^ 20) ⌝ }
+    requires { ⌜ (length (now marks) ≤ 600) × ((width ≤ 800) × ((length (now picture) ≡ length (now marks) * (3 * width)) × (length (now tags) ≡ length (now marks) * width))) ⌝ }
+    ensures { λ _. ⌜ now (picture .exit) ≡ mended (now (marks .entry)) (rowColours (now (memory .entry)) (run (now (list .entry)) (length (now (memory .entry))) limit atStart .actions) width) (3 * width) (now (picture .entry)) ⌝ }
+    ensures { λ _. ⌜ now (tags .exit) ≡ mended (now (marks .entry)) (rowTags (now (memory .entry)) (run (now (list .entry)) (length (now (memory .entry))) limit atStart .actions) width) width (now (tags .entry)) ⌝ }
+{
+    let mut numbers = [0; store::NUMBERS * kept::MOST];
+    let mut places = [0; store::PLACES * kept::MOST];
+    let mut bands = [0; 2 * kept::MOST];
+    let gathered = kept::gather(
+        list,
+        memory.len() as u32,
+        limit,
+        &mut numbers,
+        &mut places,
+        &mut bands,
+    );
+    paint_each_marked(
+        gathered,
+        &numbers,
+        &places,
+        &bands,
+        list,
+        limit,
+        memory,
+        width,
+        marks,
         picture,
         tags,
     );

@@ -1,0 +1,35 @@
+-- A run of which the marked rows are painted, gone through row by row.
+use mathlib.Core.Bool.{Bool, true, false, cond}
+use mathlib.Core.List.{List, _++_}
+use mathlib.Core.Path.{_≡_, refl}
+use Prim.Native.Nat.{ℕ, _+_, _*_, _-_, _<_, _≤_}
+use borrow.Author.Tests.{eq-eqb, ne-eqb}
+use lib.ListN.{length, getD, take, drop}
+use Rattle.paint.specs.Picture.{isMarked, mended, rowIn}
+use Rattle.paint.proofs.Stacks.{Filled, filled-all, filled-more, filled-none, filled-skip, row-long}
+
+-- `y` rows are gone through; the next begins at `at`
+pub record Mending (marks : List ℕ) (row : ℕ → List ℕ) (wide : ℕ) (lent now : List ℕ) (y at : ℕ) : Type 0 where
+  pub filled : Filled (λ i. cond (isMarked marks i) (row i) (rowIn lent wide i)) wide (length marks) lent now y at
+
+either-long : (b : Bool) (xs ys : List ℕ) (n : ℕ) → length xs ≡ n → length ys ≡ n → length (cond b xs ys) ≡ n
+either-long true xs ys n p q = p
+either-long false xs ys n p q = q
+
+module _ {marks : List ℕ} {row : ℕ → List ℕ} {wide : ℕ} {lent : List ℕ} where
+  pub mending-none : ((y : ℕ) → length (row y) ≡ wide) → length lent ≡ length marks * wide → Mending marks row wide lent lent 0 0
+  mending-none each e =
+      record { filled = filled-none (λ y l. either-long (isMarked marks y) _ _ wide (each y) (row-long lent wide (length marks) e y l)) e }
+
+  module _ {now : List ℕ} {y at : ℕ} (m : Mending marks row wide lent now y at) where
+    pub mending-painted :
+        (ys : List ℕ) → y < length marks → getD marks y 0 ≡ 1 → ys ≡ row y →
+        Mending marks row wide lent (take at now ++ (ys ++ drop (at + wide - at) (drop at now))) (y + 1) (at + wide)
+    mending-painted ys l marked e = record { filled = filled-more (m .filled) ys l (rw (eq-eqb (getD marks y 0) 1 marked) e) }
+
+    pub mending-left : y < length marks → (getD marks y 0 ≡ 1 → ⊥) → Mending marks row wide lent now (y + 1) (at + wide)
+    mending-left l unmarked = record { filled = filled-skip (m .filled) l (rw (ne-eqb (getD marks y 0) 1 unmarked)) }
+
+    pub mending-all : length marks ≤ y → now ≡ mended marks row wide lent
+    unfolding mended
+    mending-all l = filled-all (m .filled) l
