@@ -2,30 +2,22 @@
 use mathlib.Core.Path.{_≡_, refl, sym, ap, _∙_}
 use mathlib.Core.Bool.{Bool, true, _&&_}
 use mathlib.Core.List.{List}
-use Prim.Native.Nat.{ℕ, zero, suc, _*_, _<_}
+use Prim.Native.Nat.{ℕ, _*_, _<_}
 use native.Mathlib.Nat.{zero-add}
-use native.Mathlib.Omega.{arith}
 use lib.Dec.{ltb}
 use lib.ListN.{length}
 use borrow.Author.Tests.{eq-eqb, lt-ltb}
+use Rattle.paint.proofs.Stacks.{stacked-same}
 use Rattle.paint.specs.Picture.{stacked, rowColours, rowTags}
 use Rattle.jokulvisp.specs.declared.check.JvAnswer.{JvAnswer}
 use Rattle.jokulvisp.specs.Agreement.{Lent, Agrees}
 use Rattle.jokulvisp.specs.Check.{answerOf, CheckAnswer}
 use Rattle.jokulvisp.specs.Paint.{isLent, leftBy, ran, PaintAnswer, PaintRowAnswer}
+use Rattle.jokulvisp.proofs.Painted.{left-new, number-of}
 
-lent-right : (width rows : ℕ) (picture tags : List ℕ) → Lent width rows picture tags → isLent width rows (length picture) (length tags) ≡ true
+pub lent-right : (width rows : ℕ) (picture tags : List ℕ) → Lent width rows picture tags → isLent width rows (length picture) (length tags) ≡ true
 unfolding isLent
 lent-right width rows picture tags l = rw (eq-eqb (length picture) (rows * (3 * width)) (l .colours), eq-eqb (length tags) (rows * width) (l .tagBytes)) refl
-
-left-new : (answer : JvAnswer) (new lent : List ℕ) → answer .number ≡ 0 → leftBy answer new lent ≡ new
-unfolding leftBy
-left-new answer new lent z = rw (eq-eqb (answer .number) 0 z) refl
-
-stacked-same : (f g : ℕ → List ℕ) (n : ℕ) → ((y : ℕ) → y < n → f y ≡ g y) → stacked f n ≡ stacked g n
-unfolding stacked
-stacked-same f g zero h = refl
-stacked-same f g (suc n) h = rw (stacked-same f g n (λ y l. h y (omega (arith, l))), h n (omega arith)) refl
 
 module _ (list memory : List ℕ) (width height limit : ℕ) (check : JvAnswer) (k : CheckAnswer list (length memory) width height limit check) where
   -- the answer that is due where what is lent is right
@@ -35,7 +27,7 @@ module _ (list memory : List ℕ) (width height limit : ℕ) (check : JvAnswer) 
 
   -- and what is then left
   left-done : (lent : Bool) → lent ≡ true → check .number ≡ 0 → (new old : List ℕ) → leftBy (answerOf list (length memory) width height limit lent) new old ≡ new
-  left-done lent e z new old = left-new (answerOf list (length memory) width height limit lent) new old (ap (λ (a : JvAnswer). a .number) (due-check lent e) ∙ z)
+  left-done lent e z new old = left-new (answerOf list (length memory) width height limit lent) new old (number-of (due-check lent e) ∙ z)
 
   row-right : (y : ℕ) (picture tags : List ℕ) → y < height → Lent width 1 picture tags → (ltb y height && isLent width 1 (length picture) (length tags)) ≡ true
   row-right y picture tags l m = rw (lt-ltb y height l, lent-right width 1 picture tags m) refl

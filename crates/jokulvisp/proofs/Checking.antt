@@ -8,7 +8,7 @@ use lib.Dec.{leb}
 use lib.ListN.{length}
 use borrow.Author.Tests.{leb-true, not-true, not-false}
 use Rattle.engine.specs.declared.run.Ending.{Ending}
-use Rattle.engine.specs.Run.{Ran}
+use Rattle.engine.specs.Run.{Ran, run, atStart}
 use Rattle.jokulvisp.specs.declared.check.JvAnswer.{JvAnswer}
 use Rattle.jokulvisp.specs.Check.{isFrame, isList, isMemory, isLimit, refusalOf, refused, told, answerOf, CheckAnswer}
 
@@ -28,6 +28,10 @@ told-refused (suc n) r h = refl
 told-done : (n : ℕ) (r : Ran) → told n r .number ≡ 0 → n ≡ 0
 told-done zero r e = refl
 told-done (suc n) r e = e
+
+told-drew : (n : ℕ) (r : Ran) → told n r .number ≡ 0 → r .number ≡ 0
+told-drew zero r e = e
+told-drew (suc n) r e = absurd (omega (arith, e))
 
 -- the test for number 1, made with the answer of `is_frame`
 pub no-frame : (answer frame lent : Bool) → answer ≡ frame → not (answer && lent) ≡ true → (frame && lent) ≡ false
@@ -52,44 +56,69 @@ pub and-right : (a b : Bool) → (a && b) ≡ true → b ≡ true
 and-right true b e = e
 and-right false b e = absurd (false≢true e)
 
-list-within : (n : ℕ) → isList n ≡ true → n ≤ 8192
+pub list-within : (n : ℕ) → isList n ≡ true → n ≤ 8192
 unfolding isList
 list-within n e = leb-true n 8192 (and-right (leb 4 n) _ (and-left (leb 4 n && leb n 8192) _ e))
 
-memory-within : (n : ℕ) → isMemory n ≡ true → n ≤ 2 ^ 20
+pub memory-within : (n : ℕ) → isMemory n ≡ true → n ≤ 2 ^ 20
 unfolding isMemory
 memory-within n e = leb-true n 1048576 e
 
-width-within : (w h : ℕ) → isFrame w h ≡ true → w ≤ 800
+pub width-within : (w h : ℕ) → isFrame w h ≡ true → w ≤ 800
 unfolding isFrame
 width-within w h e = leb-true w 800 (and-right (leb 1 w) _ (and-left (leb 1 w && leb w 800) _ e))
 
-height-within : (w h : ℕ) → isFrame w h ≡ true → h ≤ 600
+pub height-within : (w h : ℕ) → isFrame w h ≡ true → h ≤ 600
 unfolding isFrame
 height-within w h e = leb-true h 600 (and-right (leb 1 h) _ (and-right (leb 1 w && leb w 800) _ e))
+
+-- the tests that it passed
+pub record Passed (l m w h k : ℕ) (lent : Bool) : Type 0 where
+  pub frame : isFrame w h ≡ true
+  pub runs : lent ≡ true
+  pub list : isList l ≡ true
+  pub memory : isMemory m ≡ true
+  pub limit : isLimit k ≡ true
 
 abbrev refusal : Bool → Bool → Bool → Bool → ℕ
 refusal f l m k = cond f (cond l (cond m (cond k 0 4) 3) 2) 1
 
-pub admitted : (list memory width height limit : ℕ) (lent : Bool) → refusalOf list memory width height limit lent ≡ 0 → Admitted list memory width height lent
+passed : (list memory width height limit : ℕ) (lent : Bool) → refusalOf list memory width height limit lent ≡ 0 → Passed list memory width height limit lent
 unfolding refusalOf
-admitted list memory width height limit lent = go (isFrame width height && lent) (isList list) (isMemory memory) (isLimit limit) refl refl refl
+passed list memory width height limit lent = go (isFrame width height && lent) (isList list) (isMemory memory) (isLimit limit) refl refl refl refl
   where
-    go : (f l m k : Bool) → (isFrame width height && lent) ≡ f → isList list ≡ l → isMemory memory ≡ m → refusal f l m k ≡ 0 → Admitted list memory width height lent
-    go true true true k o p q e =
-        let frame = and-left (isFrame width height) lent o in
-        record {
-          list = list-within list p;
-          memory = memory-within memory q;
-          width = width-within width height frame;
-          height = height-within width height frame;
-          runs = and-right (isFrame width height) lent o;
-        }
-    go false l m k o p q e = absurd (omega arith)
-    go true false m k o p q e = absurd (omega arith)
-    go true true false k o p q e = absurd (omega arith)
+    go :
+        (f l m k : Bool) → (isFrame width height && lent) ≡ f → isList list ≡ l → isMemory memory ≡ m → isLimit limit ≡ k →
+        refusal f l m k ≡ 0 → Passed list memory width height limit lent
+    go true true true true o p q r e =
+        record { frame = and-left (isFrame width height) lent o; runs = and-right (isFrame width height) lent o; list = p; memory = q; limit = r }
+    go false l m k o p q r e = absurd (omega arith)
+    go true false m k o p q r e = absurd (omega arith)
+    go true true false k o p q r e = absurd (omega arith)
+    go true true true false o p q r e = absurd (omega arith)
+
+pub admitted : (list memory width height limit : ℕ) (lent : Bool) → refusalOf list memory width height limit lent ≡ 0 → Admitted list memory width height lent
+admitted list memory width height limit lent e =
+    let p = passed list memory width height limit lent e in
+    record {
+      list = list-within list (p .list);
+      memory = memory-within memory (p .memory);
+      width = width-within width height (p .frame);
+      height = height-within width height (p .frame);
+      runs = p .runs;
+    }
 
 -- with number 0 nothing is refused
 pub done : (list : List ℕ) (memory width height limit : ℕ) (lent : Bool) → answerOf list memory width height limit lent .number ≡ 0 → Admitted (length list) memory width height lent
 unfolding answerOf
 done list memory width height limit lent e = admitted (length list) memory width height limit lent (told-done (refusalOf (length list) memory width height limit lent) _ e)
+
+-- and the list drew
+pub drew :
+    (list : List ℕ) (memory width height limit : ℕ) (lent : Bool) → answerOf list memory width height limit lent .number ≡ 0 →
+    Passed (length list) memory width height limit lent × (run list memory limit atStart .number ≡ 0)
+unfolding answerOf
+drew list memory width height limit lent e =
+    let refusal = refusalOf (length list) memory width height limit lent in
+    let r = run list memory limit atStart in
+    (passed (length list) memory width height limit lent (told-done refusal r e), told-drew refusal r e)

@@ -1,5 +1,7 @@
 pub mod Agreeing
 pub mod Checking
+pub mod Editing
 pub mod Examples
 pub mod Painted
+pub mod Repainted
 pub mod Words

@@ -14,6 +14,9 @@ use Rattle.jokulvisp.specs.Check.{answerOf}
 use Rattle.jokulvisp.specs.Paint.{isLent, leftBy, ran, Paints, Lends, PaintAnswer, PaintRowAnswer, RowsAnswer}
 use Rattle.jokulvisp.proofs.Checking.{and-left, and-right, done}
 
+pub number-of : {a b : JvAnswer} → a ≡ b → a .number ≡ b .number
+number-of e = ap (λ (a : JvAnswer). a .number) e
+
 -- NO SECOND ANSWER FITS: neither another number, place or count, nor another byte.
 pub record Same (a b : JvAnswer) (p q t u : List ℕ) : Type 0 where
   pub answer : a ≡ b
@@ -44,6 +47,18 @@ pub paint-once :
 unfolding PaintAnswer
 paint-once list memory width height limit picture tags a b p q t u x y = paints-once a b p q t u x y
 
+-- with number 0 the new bytes are left
+pub left-new : (answer : JvAnswer) (new lent : List ℕ) → answer .number ≡ 0 → leftBy answer new lent ≡ new
+unfolding leftBy
+left-new answer new lent z = rw (eq-eqb (answer .number) 0 z) refl
+
+pub paints-new :
+    {due : JvAnswer} {colours tagBytes picture tags : List ℕ} {answer : JvAnswer} {picture′ tags′ : List ℕ} →
+    Paints due colours tagBytes picture tags answer picture′ tags′ → answer .number ≡ 0 → (picture′ ≡ colours) × (tags′ ≡ tagBytes)
+paints-new {due} x z =
+    let n : due .number ≡ 0 = number-of (sym (x .answered)) ∙ z in
+    (x .painted ∙ left-new due _ _ n, x .tagged ∙ left-new due _ _ n)
+
 -- LENGTHS. A run of three bytes a pixel, by a division.
 
 and-false : (a b : Bool) → (a ≡ true → b ≡ true → ⊥) → (a && b) ≡ false
@@ -69,7 +84,7 @@ unfolding isLent
 lent-told width rows picture tags = rw (thirds picture (rows * width), mul-left-comm 3 rows width) refl
 
 -- what it says that these are the lengths of so many rows
-lent-lends : (width rows picture tags : ℕ) → isLent width rows picture tags ≡ true → (picture ≡ rows * (3 * width)) × (tags ≡ rows * width)
+pub lent-lends : (width rows picture tags : ℕ) → isLent width rows picture tags ≡ true → (picture ≡ rows * (3 * width)) × (tags ≡ rows * width)
 unfolding isLent
 lent-lends width rows picture tags e =
     let colours = eqb picture (rows * (3 * width)) in
@@ -90,7 +105,7 @@ pub may-paint :
     ((length list ≤ 8192) × (memory ≤ 2 ^ 20)) ×
     ((first + count ≤ 600) × ((width ≤ 800) × ((picture ≡ count * (3 * width)) × (tags ≡ count * width))))
 may-paint lent list memory width height first count limit picture tags answer e z l =
-    let m = done list memory width height limit lent (sym (ap (λ (a : JvAnswer). a .number) e) ∙ z) in
+    let m = done list memory width height limit lent (number-of (sym e) ∙ z) in
     let r = l (m .runs) in
     ((m .list, m .memory), (le-trans (r .0) (m .height), (m .width, r .1)))
 
@@ -102,7 +117,7 @@ pub left-as-lent :
 unfolding RowsAnswer leftBy
 left-as-lent lent list memory width height first count limit picture tags answer e z =
     let due = answerOf list (length memory) width height limit lent in
-    let n : due .number ≡ 0 → ⊥ = λ d. z (ap (λ (a : JvAnswer). a .number) e ∙ d) in
+    let n : due .number ≡ 0 → ⊥ = λ d. z (number-of e ∙ d) in
     record { answered = e; painted = rw (ne-eqb (due .number) 0 n) refl; tagged = rw (ne-eqb (due .number) 0 n) refl }
 
 -- with number 0
@@ -115,7 +130,7 @@ pub rows-painted :
 unfolding RowsAnswer leftBy
 rows-painted lent list memory width height first count limit picture tags answer p t e z h =
     let due = answerOf list (length memory) width height limit lent in
-    let n : due .number ≡ 0 = sym (ap (λ (a : JvAnswer). a .number) e) ∙ z in
+    let n : due .number ≡ 0 = number-of (sym e) ∙ z in
     record { answered = e; painted = rw (eq-eqb (due .number) 0 n) (h .0); tagged = rw (eq-eqb (due .number) 0 n) (h .1) }
 
 -- FROM ANY ROWS TO ONE AND TO ALL. One row from `row` on is that row.

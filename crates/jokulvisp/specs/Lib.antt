@@ -1,5 +1,7 @@
 pub mod Agreement
 pub mod Check
+pub mod Edits
 pub mod Examples
 pub mod Paint
+pub mod Repaint
 pub mod Words

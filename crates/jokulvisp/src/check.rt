@@ -11,25 +11,25 @@ pub struct JvAnswer {
     pub count: u32,
 }
 
-fn is_frame(width: u32, height: u32) -> bool
+pub fn is_frame(width: u32, height: u32) -> bool
     ensures { λ r. ⌜ r ≡ isFrame width height ⌝ }
 {
     (1 <= width) & (width <= 800) & ((1 <= height) & (height <= 600))
 }
 
-fn is_list(length: usize) -> bool
+pub fn is_list(length: usize) -> bool
     ensures { λ r. ⌜ r ≡ isList length ⌝ }
 {
     (4 <= length) & (length <= 8192) & (length % 4 == 0)
 }
 
-fn is_memory(length: usize) -> bool
+pub fn is_memory(length: usize) -> bool
     ensures { λ r. ⌜ r ≡ isMemory length ⌝ }
 {
     length <= 1048576
 }
 
-fn is_limit(limit: u32) -> bool
+pub fn is_limit(limit: u32) -> bool
     ensures { λ r. ⌜ r ≡ isLimit limit ⌝ }
 {
     (1 <= limit) & (limit <= 65536)

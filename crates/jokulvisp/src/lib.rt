@@ -4,11 +4,13 @@ ghost use mathlib.Core.Path.{_≡_};
 
 mod check;
 mod painting;
+mod repainting;
 
 pub use check::JvAnswer;
 pub use check::jv_check;
 pub use painting::jv_paint;
 pub use painting::jv_paint_row;
+pub use repainting::jv_repaint;
 use words::Spelling;
 use words::Spelt;
 use words::Written;

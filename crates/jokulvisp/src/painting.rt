@@ -6,7 +6,7 @@ use crate::check::JvAnswer;
 use crate::check::answer;
 
 // The frame's limits may be broken here, so a product of three numbers could be past 64 bits: picture is divided instead.
-fn is_lent(width: u32, rows: u32, picture: usize, tags: usize) -> bool
+pub fn is_lent(width: u32, rows: u32, picture: usize, tags: usize) -> bool
     ensures { λ r. ⌜ r ≡ isLent width rows picture tags ⌝ }
 {
     let pixels = (rows as usize) * (width as usize);

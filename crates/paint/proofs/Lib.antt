@@ -1,7 +1,7 @@
 mod Banding
 mod Folds
 mod Going
-mod Mending
+pub mod Mending
 mod Points
 pub mod Rows
 pub mod Stacks

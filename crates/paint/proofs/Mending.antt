@@ -1,12 +1,27 @@
--- A run of which the marked rows are painted, gone through row by row.
+-- A run of which the marked rows are painted: what it comes to, and how it is gone through row by row.
 use mathlib.Core.Bool.{Bool, true, false, cond}
 use mathlib.Core.List.{List, _++_}
-use mathlib.Core.Path.{_≡_, refl}
+use mathlib.Core.Path.{_≡_, refl, sym, _∙_}
 use Prim.Native.Nat.{ℕ, _+_, _*_, _-_, _<_, _≤_}
 use borrow.Author.Tests.{eq-eqb, ne-eqb}
 use lib.ListN.{length, getD, take, drop}
-use Rattle.paint.specs.Picture.{isMarked, mended, rowIn}
-use Rattle.paint.proofs.Stacks.{Filled, filled-all, filled-more, filled-none, filled-skip, row-long}
+use Rattle.paint.specs.Picture.{isMarked, mended, rowIn, stacked}
+use Rattle.paint.proofs.Stacks.{Filled, filled-all, filled-more, filled-none, filled-skip, row-long, rows-stacked, stacked-same}
+
+module _ (marks : List ℕ) (row : ℕ → List ℕ) (wide : ℕ) (lent : List ℕ) where
+  -- where every row that is not marked is right already, all are
+  pub mended-all :
+      ((y : ℕ) → y < length marks → isMarked marks y ≡ false → rowIn lent wide y ≡ row y) → mended marks row wide lent ≡ stacked row (length marks)
+  unfolding mended
+  mended-all h = stacked-same _ row (length marks) (λ y l. go y (isMarked marks y) (h y l))
+    where
+      go : (y : ℕ) (b : Bool) → (b ≡ false → rowIn lent wide y ≡ row y) → cond b (row y) (rowIn lent wide y) ≡ row y
+      go y true e = refl
+      go y false e = e refl
+
+  pub mended-none : ((y : ℕ) → y < length marks → isMarked marks y ≡ false) → length lent ≡ length marks * wide → mended marks row wide lent ≡ lent
+  unfolding mended
+  mended-none h e = stacked-same _ (rowIn lent wide) (length marks) (λ y l. rw (h y l)) ∙ sym (rows-stacked lent wide (length marks) e)
 
 -- `y` rows are gone through; the next begins at `at`
 pub record Mending (marks : List ℕ) (row : ℕ → List ℕ) (wide : ℕ) (lent now : List ℕ) (y at : ℕ) : Type 0 where

@@ -68,6 +68,17 @@ unfolding tagsOf
 tags-long f zero = refl
 tags-long f (suc width) = length-append (tagsOf f width) _ ∙ omega (arith, tags-long f width)
 
+-- pixels that are the same below the width make the same bytes
+pub colours-same : (f g : ℕ → Pixel) (width : ℕ) → ((x : ℕ) → x < width → f x ≡ g x) → coloursOf f width ≡ coloursOf g width
+unfolding coloursOf
+colours-same f g zero h = refl
+colours-same f g (suc width) h = rw (colours-same f g width (λ x l. h x (omega arith)), h width (omega arith))
+
+pub tags-same : (f g : ℕ → Pixel) (width : ℕ) → ((x : ℕ) → x < width → f x ≡ g x) → tagsOf f width ≡ tagsOf g width
+unfolding tagsOf
+tags-same f g zero h = refl
+tags-same f g (suc width) h = rw (tags-same f g width (λ x l. h x (omega arith)), h width (omega arith))
+
 -- a row drawn from zeros is the row
 pub drawn-from-zeros :
     (memory : List ℕ) (actions : List Action) (width y a b n m : ℕ) (picture tags alpha stencil : List ℕ) →

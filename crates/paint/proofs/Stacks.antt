@@ -20,6 +20,11 @@ stacked-long row wide zero each = sym (zero-mul wide)
 stacked-long row wide (suc height) each =
     length-append (stacked row height) (row height) ∙ rw (stacked-long row wide height (λ y l. each y (omega arith)), each height (omega arith), suc-mul)
 
+pub stacked-same : (f g : ℕ → List ℕ) (n : ℕ) → ((y : ℕ) → y < n → f y ≡ g y) → stacked f n ≡ stacked g n
+unfolding stacked
+stacked-same f g zero h = refl
+stacked-same f g (suc n) h = rw (stacked-same f g n (λ y l. h y (omega (arith, l))), h n (omega arith)) refl
+
 -- row y ends within
 row-within : (wide height y : ℕ) → y < height → y * wide + wide ≤ height * wide
 row-within wide height y l = let m : suc y * wide ≤ height * wide = mul-le-mul-right wide l in rw suc-mul at m

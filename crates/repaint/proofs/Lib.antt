@@ -1,0 +1,4 @@
+mod Beside
+mod Marking
+pub mod Settling
+mod Sides

@@ -1,0 +1,2 @@
+pub mod Repaint
+pub mod Rows
