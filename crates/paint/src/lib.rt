@@ -20,12 +20,13 @@ use engine::Find;
 use kept::Gathered;
 use units::Pixels;
 
-fn wipe(run: &mut [u8])
-    ensures { λ _. ⌜ now (run .exit) ≡ replicate (length (now (run .entry))) 0 ⌝ }
+// Each byte of the run becomes this one.
+pub fn flood(run: &mut [u8], with: u8)
+    ensures { λ _. ⌜ now (run .exit) ≡ replicate (length (now (run .entry))) with ⌝ }
 {
     let mut i: usize = 0;
     while i < run.len() {
-        run[i] = 0;
+        run[i] = with;
         i += 1;
     }
 }
@@ -212,8 +213,8 @@ fn paint_row(
 {
     let mut alpha = [0u8; 800];
     let mut stencil = [0u8; 800];
-    wipe(picture);
-    wipe(tags);
+    flood(picture, 0);
+    flood(tags, 0);
     draw_all(
         gathered,
         numbers,
