@@ -1,4 +1,5 @@
-mod Beside
 mod Marking
+mod Runs
 pub mod Settling
 mod Sides
+mod Walking

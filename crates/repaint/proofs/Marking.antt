@@ -1,36 +1,94 @@
--- Marks that are filled in from row to row, and counted.
+-- How rows stand, changed one after another, and the marks that are counted.
 use mathlib.Core.Bool.{Bool, true, false, cond}
 use mathlib.Core.List.{List}
-use mathlib.Core.Logic.{_⊎_, ⊎-elim}
+use mathlib.Core.Logic.{_⊎_, inl, inr, ⊎-elim}
 use mathlib.Core.Path.{_≡_, refl, sym, _∙_, ap}
 use Prim.Native.Nat.{ℕ, _+_, _<_, _≤_}
 use native.Mathlib.Nat.{eq-or-lt-of-le}
 use native.Mathlib.Numerals.{add-one}
 use native.Mathlib.Omega.{arith}
-use lib.Dec.{eqb}
-use borrow.Author.Tests.{eq-eqb, eqb-true}
-use lib.ListN.{length, getD, set}
+use lib.Dec.{eqb, ltb}
+use lib.ListN.{length, getD, set, length-set}
 use lib.Seq.{getD-set-same, getD-set-other}
-use Rattle.action.specs.declared.Action.{Action}
+use borrow.Author.Tests.{eq-eqb, eqb-true, ltb-false, ltb-true}
+use Rattle.engine.specs.declared.run.Find.{Find}
 use Rattle.paint.specs.Picture.{isMarked}
 use Rattle.shape.proofs.Bools.{not-so}
-use Rattle.repaint.proofs.Sides.{before-or-from}
-use Rattle.repaint.specs.Repaint.{Mark, Marks, marked, reaching}
-use Rattle.repaint.specs.declared.Settled.{Settled}
-use Rattle.repaint.specs.Rows.{Fills, Settles}
+use Rattle.shape.specs.OneRow.{smaller}
+use Rattle.repaint.specs.Repaint.{marked}
+use Rattle.repaint.specs.Rows.{Stood, Touches, Turns, beside, meetsRow, standing}
+use Rattle.repaint.specs.declared.compare.Pace.{Pace}
 
-pub fill-none : (from mark : ℕ) (marks : List ℕ) → Fills from from mark marks marks
-fill-none from mark marks = record { inside = λ k h l. absurd (omega arith); before = λ k h. refl }
+pub before-or-from : (k n : ℕ) → (k < n) ⊎ (n ≤ k)
+before-or-from k n = go (ltb k n) refl
+  where
+    go : (t : Bool) → ltb k n ≡ t → (k < n) ⊎ (n ≤ k)
+    go true e = inl (ltb-true k n e)
+    go false e = inr (ltb-false k n e)
 
-pub fill-more : {from y mark : ℕ} {old now : List ℕ} → from ≤ y → Fills from y mark old now → y < length now → Fills from (y + 1) mark old (set now y mark)
-fill-more {from} {y} {mark} {old} {now} h f l = record {
-  inside = λ k g m.
-      ⊎-elim (λ (e : k ≡ y). rw e (getD-set-same now y mark 0 l))
-      (λ (b : k < y). getD-set-other now y k mark 0 (omega arith) ∙ f .inside k g b)
-      (eq-or-lt-of-le (omega arith));
-  before = λ k g. getD-set-other now y k mark 0 (omega arith) ∙ f .before k g;
+-- ROW BY ROW: those rows of the first so many, from one on, that stood so are as `becomes` says
+pub record Done (was : ℕ) (becomes : ℕ → ℕ) (from : ℕ) (old now : List ℕ) (y : ℕ) : Type 0 where
+  pub long : length now ≡ length old
+  pub moved : (k : ℕ) → from ≤ k → k < y → getD old k 0 ≡ was → getD now k 0 ≡ becomes k
+  pub others : (k : ℕ) → (getD old k 0 ≡ was → ⊥) → getD now k 0 ≡ getD old k 0
+  pub rest : (k : ℕ) → (k < from) ⊎ (y ≤ k) → getD now k 0 ≡ getD old k 0
+
+module _ (was : ℕ) (becomes : ℕ → ℕ) (from : ℕ) (old : List ℕ) where
+  pub done-none : Done was becomes from old old from
+  done-none = record { long = refl; moved = λ k h l. absurd (omega arith); others = λ k e. refl; rest = λ k e. refl }
+
+  module _ {now : List ℕ} {y : ℕ} (d : Done was becomes from old now y) (h : from ≤ y) where
+    -- the row that is next is as it was
+    next : getD now y 0 ≡ getD old y 0
+    next = d .rest y (inr (omega arith))
+
+    pub done-set : {v : ℕ} → y < length now → getD now y 0 ≡ was → v ≡ becomes y → Done was becomes from old (set now y v) (y + 1)
+    done-set {v} l at is = record {
+      long = simp length-set (d .long);
+      moved = λ k f m e.
+          ⊎-elim (λ (i : k ≡ y). rw i (getD-set-same now y v 0 l ∙ is)) (λ (i : k < y). getD-set-other now y k v 0 (omega arith) ∙ d .moved k f i e) (eq-or-lt-of-le (omega arith));
+      others = λ k e. getD-set-other now y k v 0 (λ i. e (rw i (sym next ∙ at))) ∙ d .others k e;
+      rest = λ k e.
+          ⊎-elim (λ (i : k < from). getD-set-other now y k v 0 (omega arith) ∙ d .rest k (inl i)) (λ (i : y + 1 ≤ k). getD-set-other now y k v 0 (omega arith) ∙ d .rest k (inr (omega arith))) e;
+    }
+
+    pub done-skip : (getD now y 0 ≡ was → ⊥) → Done was becomes from old now (y + 1)
+    done-skip off = record {
+      long = d .long;
+      moved = λ k f m e.
+          ⊎-elim (λ (i : k ≡ y). absurd (off (next ∙ rw (← i) e))) (λ (i : k < y). d .moved k f i e) (eq-or-lt-of-le (omega arith));
+      others = d .others;
+      rest = λ k e. ⊎-elim (λ (i : k < from). d .rest k (inl i)) (λ (i : y + 1 ≤ k). d .rest k (inr (omega arith))) e;
+    }
+
+pub turns-done : {was then : ℕ} {old now : List ℕ} {y : ℕ} → Done was (λ k. then) 0 old now y → length old ≤ y → Turns was then old now
+turns-done d l = record { turned = λ k h e. d .moved k (omega arith) (omega arith) e; others = λ k h e. d .others k e }
+
+-- rows that a step does not touch stand beside as before
+pub stood-done :
+    (old new : Find) (pace : Pace) (width from to : ℕ) {marks now : List ℕ} {y : ℕ} → Touches old new pace from to → length marks ≤ 600 → width ≤ 800 →
+    Done beside (λ k. standing (meetsRow old width k) (meetsRow new width k) pace) from marks now y → (y ≤ smaller to (length marks)) ⊎ (y ≡ from) →
+    smaller to (length marks) ≤ y → Stood width old new pace marks now
+stood-done old new pace width from to {marks} {now} {y} touch high wide d most l = record {
+  moved = λ k h e.
+      ⊎-elim (λ (i : k < from). out k h e (inl i) (d .rest k (inl i)))
+      (λ (i : from ≤ k).
+      ⊎-elim (λ (j : k < to). d .moved k i (omega arith) e)
+      (λ (j : to ≤ k). out k h e (inr j) (d .rest k (inr (⊎-elim (λ (m : y ≤ smaller to (length marks)). omega (arith, m)) (λ (m : y ≡ from). omega (arith, m)) most))))
+      (before-or-from k to))
+      (before-or-from k from);
+  others = λ k h e. d .others k e;
 }
+  where
+    out : (k : ℕ) → k < length marks → getD marks k 0 ≡ beside → (k < from) ⊎ (to ≤ k) → getD now k 0 ≡ getD marks k 0 → getD now k 0 ≡ standing (meetsRow old width k) (meetsRow new width k) pace
+    out k h e off same = same ∙ e ∙ sym (touch width k wide (omega arith) off)
 
+-- one row more that does not stand so
+pub not-at : (marks : List ℕ) (y stand row : ℕ) → ((k : ℕ) → y ≤ k → k < row → getD marks k 0 ≡ stand → ⊥) → (getD marks row 0 ≡ stand → ⊥) → (k : ℕ) → y ≤ k → k < row + 1 → getD marks k 0 ≡ stand → ⊥
+not-at marks y stand row before here k h l =
+    ⊎-elim (λ (e : k ≡ row). rw e here) (λ (m : k < row). before k h m) (eq-or-lt-of-le (omega arith))
+
+-- COUNTED
 pub count-none : (marks : List ℕ) → 0 ≡ marked marks 0
 unfolding marked
 count-none marks = refl
@@ -50,18 +108,3 @@ pub count-all : (marks : List ℕ) {rows y : ℕ} → y ≤ length marks → len
 count-all marks {rows} {y} h l e =
     let s : y ≡ length marks = omega arith in
     e ∙ ap (marked marks) s
-
--- THE MARKS of the rows before y
-abbrev pub MarkedTo : List Action → List Action → ℕ → ℕ → List ℕ → Type 0
-MarkedTo old new width y marks = (k : ℕ) → k < y → Mark (getD marks k 0) (reaching width k old) (reaching width k new)
-
-pub marked-more :
-    {old new : List Action} {width y height : ℕ} {s : Settled} {marks marks′ : List ℕ} →
-    MarkedTo old new width y marks → Settles old new width y height s → Fills y (s .end) (s .mark) marks marks′ → MarkedTo old new width (s .end) marks′
-marked-more {y = y} {s = s} {marks} {marks′} so-far settled f k h =
-    ⊎-elim (λ (l : k < y). rw (f .before k l) (so-far k l)) (λ (l : y ≤ k). rw (f .inside k l h) (settled .rows k l h)) (before-or-from k y)
-
-pub marked-all :
-    {old new : List Action} {width y height : ℕ} {marks : List ℕ} →
-    length marks ≡ height → y ≤ height → height ≤ y → MarkedTo old new width y marks → Marks old new width height marks
-marked-all long h l so-far = record { long = long; each = λ k m. so-far k (omega arith) }

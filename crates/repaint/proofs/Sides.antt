@@ -1,14 +1,13 @@
--- One step of two lists side by side, for a stretch of rows: what is passed tells nothing of them, and what is not passed settles them.
-use mathlib.Core.Bool.{Bool, true, false, not, Bool·beq, _&&_}
+-- One step of two lists side by side: what is passed tells nothing of a row that stands beside, and what is not passed settles it.
+use mathlib.Core.Bool.{Bool, true, false, not, cond, _&&_, _||_, and-false, and-true, or-true}
 use mathlib.Core.List.{List, [], _∷_, cons-ne-nil, head-eq-of-cons-eq, tail-eq-of-cons-eq}
 use mathlib.Core.Logic.{_⊎_, inl, inr, ⊎-elim}
 use mathlib.Core.Path.{_≡_, refl, sym, _∙_, ap}
 use Prim.Native.Nat.{ℕ, _+_, _<_, _≤_}
-use native.Mathlib.Nat.{eq-or-lt-of-le}
-use native.Mathlib.Numerals.{lt-of-le-of-ne}
 use native.Mathlib.Omega.{arith}
-use lib.Dec.{eqb, ltb}
-use borrow.Author.Tests.{eq-eqb, eqb-true, ltb-true, ltb-false}
+use lib.Dec.{eqb, leb, ltb}
+use lib.ListN.{length, getD}
+use borrow.Author.Tests.{eqb-false, eqb-true, le-leb, leb-false, leb-true, lt-ltb, ltb-true}
 use Rattle.action.specs.Same.{Tells}
 use Rattle.action.specs.declared.Action.{Action}
 use Rattle.engine.specs.declared.run.Find.{Find}
@@ -19,119 +18,21 @@ use Rattle.shape.proofs.Bools.{both-true, never, not-so}
 use Rattle.shape.proofs.Reaching.{row-by-none}
 use Rattle.shape.specs.OneRow.{larger, smaller}
 use Rattle.units.specs.Units.{pixelAt}
-use Rattle.repaint.specs.Repaint.{Mark, reaching}
-use Rattle.repaint.specs.Rows.{Alike, Paces, PacesAlone, Seeks, isDrawn, passed, reachesAt, withRest}
-use Rattle.repaint.specs.declared.compare.Alone.{Alone}
+use Rattle.repaint.specs.Repaint.{reaching}
+use Rattle.repaint.specs.Rows.{Alike, Bounded, Compares, Passes, Stands, Stood, Touches, Turns, beside, here, isDrawn, later, meetsRow, paceOf, passed, reachesAt, standing, withRest}
 use Rattle.repaint.specs.declared.compare.Pace.{Pace}
 
--- SEEKING A ROW
-pub as-asked : (a b : Bool) → Bool·beq a b ≡ true → a ≡ b
-as-asked true true e = refl
-as-asked true false e = never e
-as-asked false true e = never e
-as-asked false false e = refl
-
-pub not-as-asked : (a b : Bool) → Bool·beq a b ≡ false → a ≡ not b
-not-as-asked true true e = never (sym e)
-not-as-asked true false e = refl
-not-as-asked false true e = refl
-not-as-asked false false e = never (sym e)
-
--- one row more is as those before it
-pub row-more : (g : ℕ → Bool) (b : Bool) (y row : ℕ) → ((k : ℕ) → y ≤ k → k < row → g k ≡ b) → g row ≡ b → (k : ℕ) → y ≤ k → k < row + 1 → g k ≡ b
-row-more g b y row before here k h l =
-    ⊎-elim (λ (e : k ≡ row). rw e here) (λ (m : k < row). before k h m) (eq-or-lt-of-le (omega arith))
-
-pub before-or-from : (k n : ℕ) → (k < n) ⊎ (n ≤ k)
-before-or-from k n = go (ltb k n) refl
-  where
-    go : (t : Bool) → ltb k n ≡ t → (k < n) ⊎ (n ≤ k)
-    go true e = inl (ltb-true k n e)
-    go false e = inr (ltb-false k n e)
-
-module _ (a : Action) (width y end top bottom : ℕ) (bands : Bands a top bottom) (wide : width ≤ 800) (high : end ≤ 600) where
-  -- a row outside of the band is not reached
-  outside-band : (k : ℕ) → k < end → (k < top) ⊎ (bottom ≤ k) → reachesAt a width k ≡ false
-  outside-band k h off =
-      row-by-none (outlineOf (a .drawing)) (a .scissor) width (pixelAt k)
-      (λ x l.
-      not-so _
-      (λ e.
-      let b = bands x k (omega arith) (omega arith) e in
-      ⊎-elim (λ (m : k < top). absurd (omega (arith, m, b .0))) (λ (m : bottom ≤ k). absurd (omega (arith, m, b .1))) off))
-
-  -- nor is one before a row, if none of the band's rows before it is
-  unreached :
-      (row : ℕ) → row ≤ end → ((k : ℕ) → larger y top ≤ k → k < row → k < smaller end bottom → reachesAt a width k ≡ false) →
-      (k : ℕ) → y ≤ k → k < row → reachesAt a width k ≡ false
-  unreached row e inside k h l =
-      ⊎-elim (λ (m : k < top). outside-band k (omega arith) (inl m))
-      (λ (m : top ≤ k).
-      ⊎-elim (λ (n : k < bottom). inside k (omega arith) l (omega arith)) (λ (n : bottom ≤ k). outside-band k (omega arith) (inr n)) (before-or-from k bottom))
-      (before-or-from k top)
-
-  pub band-empty : y ≤ end → smaller end bottom ≤ larger y top → Seeks a width y end true end
-  band-empty h none = record {
-    from = h;
-    to = omega arith;
-    before = unreached end (omega arith) (λ k from l to. absurd (omega arith));
-    at = λ l. absurd (omega arith);
-  }
-
-  pub band-found : {row : ℕ} → y ≤ end → larger y top < smaller end bottom → Seeks a width (larger y top) (smaller end bottom) true row → row < smaller end bottom → Seeks a width y end true row
-  band-found h some s l = record {
-    from = omega (arith, s .from);
-    to = omega arith;
-    before = unreached _ (omega arith) (λ k from m to. s .before k from m);
-    at = λ m. s .at l;
-  }
-
-  pub band-unreached : {row : ℕ} → y ≤ end → larger y top < smaller end bottom → Seeks a width (larger y top) (smaller end bottom) true row → smaller end bottom ≤ row → Seeks a width y end true end
-  band-unreached h some s l = record {
-    from = h;
-    to = omega arith;
-    before = unreached end (omega arith) (λ k from m to. s .before k from (omega arith));
-    at = λ m. absurd (omega arith);
-  }
-
--- a row that is reached is past when the first that is not is sought
-pub seek-past : {a : Action} {width y end row : ℕ} → Seeks a width y end false row → y < end → reachesAt a width y ≡ true → y < row
-seek-past {a} {width} {y} {end} {row} s h e =
-    ⊎-elim (λ (m : y < row). m)
-    (λ (m : row ≤ y).
-    let same : row ≡ y = omega (arith, s .from) in
-    never (sym (rw same at (s .at (omega arith))) ∙ e))
-    (before-or-from y row)
-
--- a row that is found at once is reached
-reached-here : {a : Action} {width y end row : ℕ} → y < end → Seeks a width y end true row → eqb row y ≡ true → reachesAt a width y ≡ true
-reached-here {a} {width} {y} {end} {row} h s e =
-    let same : row ≡ y = eqb-true row y e in
-    rw same at (s .at (omega arith))
-
--- two rows that are sought are not both y, as the test of both tells
-pub pass-one :
-    {a b : Action} {width y end old new : ℕ} → Seeks a width y end true old → Seeks b width y end true new →
-    (eqb old y && eqb new y) ≡ false → new ≤ old → y < old
-pass-one {a} {b} {width} {y} {end} {old} {new} s t no-both h =
-    ⊎-elim (λ (m : y < old). m)
-    (λ (m : old ≤ y).
-    let e : old ≡ y = omega (arith, s .from) in
-    let g : new ≡ y = omega (arith, t .from) in
-    never (sym no-both ∙ rw (eq-eqb old y e, eq-eqb new y g)))
-    (before-or-from y old)
-
--- ONE ROW
+-- ONE ROW, one action
 module _ (width y : ℕ) (a : Action) (rest : List Action) where
-  pub reach-in : reachesAt a width y ≡ true → reaching width y (a ∷ rest) ≡ a ∷ reaching width y rest
+  reach-in : reachesAt a width y ≡ true → reaching width y (a ∷ rest) ≡ a ∷ reaching width y rest
   unfolding reaching
   reach-in e = rw e
 
-  pub reach-out : reachesAt a width y ≡ false → reaching width y (a ∷ rest) ≡ reaching width y rest
+  reach-out : reachesAt a width y ≡ false → reaching width y (a ∷ rest) ≡ reaching width y rest
   unfolding reaching
   reach-out e = rw e
 
-pub reach-none : (width y : ℕ) → reaching width y [] ≡ []
+reach-none : (width y : ℕ) → reaching width y [] ≡ []
 unfolding reaching
 reach-none width y = refl
 
@@ -150,136 +51,275 @@ both-returned width y a p q e = go (reachesAt a width y) refl
     go true r = reach-in width y a p r ∙ ap (λ (l : List Action). a ∷ l) e ∙ sym (reach-in width y a q r)
     go false r = reach-out width y a p r ∙ e ∙ sym (reach-out width y a q r)
 
--- the two lists' names do not matter
-mark-turned : {mark : ℕ} {p q : List Action} → Mark mark p q → Mark mark q p
-mark-turned (inl d) = inl (d .0, λ e. d .1 (sym e))
-mark-turned (inr s) = inr (s .0, sym (s .1))
+-- where both lists tell something of a row, and not the same, it differs
+both-met :
+    (width y : ℕ) (old new : Find) (p q : List Action) → (here old ≡ here new → ⊥) → meetsRow old width y ≡ true → meetsRow new width y ≡ true →
+    Alike width y (withRest old p) (withRest new q) → ⊥
+unfolding here meetsRow withRest
+both-met width y (f.Drew a) (f.Drew b) p q apart r s e =
+    apart (ap (λ (x : Action). x ∷ []) (head-eq-of-cons-eq (sym (reach-in width y a p r) ∙ e ∙ reach-in width y b q s)))
+both-met width y (f.Drew a) (f.Over n i) p q apart r s e = cons-ne-nil a _ (sym (reach-in width y a p r) ∙ e ∙ reach-none width y)
+both-met width y (f.Over n i) (f.Drew b) p q apart r s e = cons-ne-nil b _ (sym (reach-in width y b q s) ∙ sym e ∙ reach-none width y)
+both-met width y (f.Over n i) (f.Over m j) p q apart r s e = apart refl
 
--- A STEP
-abbrev turned : Pace → Pace
-turned pace = record { old = pace .new; new = pace .old; end = pace .end; mark = pace .mark }
+-- a list that goes on past what tells nothing of a row
+past :
+    (width y : ℕ) (go : Bool) (find : Find) (p : List Action) → (go ≡ true → isDrawn find ≡ true) → (meetsRow find width y && go) ≡ false →
+    reaching width y (passed go find p) ≡ reaching width y (withRest find p)
+unfolding isDrawn meetsRow passed withRest
+past width y false find p drawn off = refl
+past width y true (f.Drew a) p drawn off = sym (reach-out width y a p (sym (and-true (reachesAt a width y)) ∙ off))
+past width y true (f.Over n i) p drawn off = never (drawn refl)
 
-pub turn : {width y end : ℕ} {old new : Find} {pace : Pace} → Paces width y end old new pace → Paces width y end new old (turned pace)
-turn p = record {
-  from = p .from;
-  to = p .to;
-  oldDrawn = p .newDrawn;
-  newDrawn = p .oldDrawn;
-  passes = λ k h l r s e. sym (p .passes k h l s r (sym e));
-  returns = λ k h l r s e. sym (p .returns k h l s r (sym e));
-  settles = λ o n k h l r s. mark-turned (p .settles n o k h l s r);
+-- a row outside of the bounds is not met
+bounded-by : (find : Find) (top bottom : ℕ) → Bounded find top bottom → (width y : ℕ) → width ≤ 800 → y < 600 → (y < top) ⊎ (bottom ≤ y) → meetsRow find width y ≡ false
+bounded-by find top bottom b width y w h off =
+    not-so _ (λ e. let i = b width y w h e in ⊎-elim (λ (l : y < top). absurd (omega (arith, l, i .0))) (λ (l : bottom ≤ y). absurd (omega (arith, l, i .1))) off)
+
+pub band-bounds : (a : Action) (top bottom : ℕ) → Bands a top bottom → Bounded (f.Drew a) top bottom
+unfolding meetsRow
+band-bounds a top bottom bands width y w h e = go (leb top y && ltb y bottom) refl
+  where
+    go : (t : Bool) → (leb top y && ltb y bottom) ≡ t → (top ≤ y) × (y < bottom)
+    go true t = let i = both-true (leb top y) (ltb y bottom) t in (leb-true top y (i .0), ltb-true y bottom (i .1))
+    go false t =
+        never
+        (sym
+        (row-by-none (outlineOf (a .drawing)) (a .scissor) width (pixelAt y)
+        (λ x l.
+        not-so _
+        (λ r.
+        let b = bands x y (omega arith) h r in
+        never (sym t ∙ rw (le-leb top y (b .0), lt-ltb y bottom (b .1))))))
+        ∙ e)
+
+pub over-bounds : (number place : ℕ) → Bounded (f.Over number place) 0 600
+over-bounds number place width y w h e = (omega arith, h)
+
+-- a step touches no row outside of the bounds of what is passed
+module _ (old new : Find) (pace : Pace) where
+  pub touch-old : {top bottom : ℕ} → Bounded old top bottom → pace .new ≡ false → Touches old new pace top bottom
+  unfolding standing
+  touch-old b e width y w h off = rw (bounded-by old _ _ b width y w h off, e, and-false (meetsRow new width y))
+
+  pub touch-new : {top bottom : ℕ} → Bounded new top bottom → pace .old ≡ false → Touches old new pace top bottom
+  unfolding standing
+  touch-new b e width y w h off = rw (bounded-by new _ _ b width y w h off, e, and-false (meetsRow old width y))
+
+  pub touch-both :
+      {top bottom top′ bottom′ : ℕ} → Bounded old top bottom → Bounded new top′ bottom′ → Touches old new pace (smaller top top′) (larger bottom bottom′)
+  unfolding standing
+  touch-both {top} {bottom} {top′} {bottom′} a b width y w h off =
+      rw (
+        bounded-by old top bottom a width y w h (⊎-elim (λ (l : y < smaller top top′). inl (omega (arith, l))) (λ (l : larger bottom bottom′ ≤ y). inr (omega (arith, l))) off),
+        bounded-by new top′ bottom′ b width y w h (⊎-elim (λ (l : y < smaller top top′). inl (omega (arith, l))) (λ (l : larger bottom bottom′ ≤ y). inr (omega (arith, l))) off),
+      )
+
+-- THE PACE
+not-met : (find : Find) (width y : ℕ) → not (meetsRow find width y) ≡ true → isDrawn find ≡ true
+unfolding isDrawn meetsRow
+not-met (f.Drew a) width y e = refl
+not-met (f.Over n i) width y e = never e
+
+module _ (old new : Find) (p q width y : ℕ) where
+  pub pace-old : paceOf old new p q width y .old ≡ true → isDrawn old ≡ true
+  unfolding paceOf
+  pace-old e = not-met old width y (both-true (not (meetsRow old width y)) _ e .0)
+
+  pub pace-new : paceOf old new p q width y .new ≡ true → isDrawn new ≡ true
+  unfolding paceOf
+  pace-new e = not-met new width y (both-true (not (meetsRow new width y)) _ e .0)
+
+-- row y is not left for later
+waits : (a b c d : Bool) → standing a b (record { old = not a && c; new = not b && d }) ≡ later → ⊥
+unfolding standing
+waits true true c d h = absurd (omega arith)
+waits true false c d h = absurd (omega arith)
+waits false true c d h = absurd (omega arith)
+waits false false c d h = absurd (omega arith)
+
+not-later : (old new : Find) (p q width y : ℕ) → standing (meetsRow old width y) (meetsRow new width y) (paceOf old new p q width y) ≡ later → ⊥
+unfolding paceOf
+not-later old new p q width y h = waits (meetsRow old width y) (meetsRow new width y) _ _ h
+
+-- a list goes on, or row y is settled
+either-more : (p q : ℕ) → leb q p || leb p q ≡ true
+either-more p q = go (leb q p) refl
+  where
+    go : (b : Bool) → leb q p ≡ b → b || leb p q ≡ true
+    go true e = refl
+    go false e = le-leb p q (omega (arith, leb-false q p e))
+
+one-goes :
+    (a b c d : Bool) → c || d ≡ true →
+    ((not a && (b || c)) || (not b && (a || d)) ≡ true) ⊎ (standing a b (record { old = not a && (b || c); new = not b && (a || d) }) ≡ beside → ⊥)
+unfolding standing
+one-goes true true c d e = inr (λ z. absurd (omega (arith, z)))
+one-goes true false c d e = inl refl
+one-goes false true c d e = inl refl
+one-goes false false c d e = inl e
+
+some-goes :
+    (old new : Find) (p q width y : ℕ) →
+    (paceOf old new p q width y .old || paceOf old new p q width y .new ≡ true) ⊎
+    (standing (meetsRow old width y) (meetsRow new width y) (paceOf old new p q width y) ≡ beside → ⊥)
+unfolding paceOf
+some-goes old new p q width y = one-goes (meetsRow old width y) (meetsRow new width y) (leb q p) (leb p q) (either-more p q)
+
+-- A STEP of a row that stands beside
+split : (a b c d : Bool) → (a && b) ≡ false → ((a && c) || (b && d)) ≡ false → ((a && c) ≡ false) × ((b && d) ≡ false)
+split a b c d e h = go (a && c) (b && d) h
+  where
+    go : (x z : Bool) → (x || z) ≡ false → (x ≡ false) × (z ≡ false)
+    go true z t = never (sym t)
+    go false z t = (refl, t)
+
+module _ (width y : ℕ) (old new : Find) (pace : Pace) (apart : here old ≡ here new → ⊥)
+    (oldDrawn : pace .old ≡ true → isDrawn old ≡ true) (newDrawn : pace .new ≡ true → isDrawn new ≡ true) where
+  pub stood : {m′ : ℕ} → m′ ≡ standing (meetsRow old width y) (meetsRow new width y) pace → Passes width y old new pace beside m′
+  unfolding standing
+  stood {m′} is = go (meetsRow old width y && meetsRow new width y) refl
+    where
+      onto : ((meetsRow old width y && pace .old) ≡ false) × ((meetsRow new width y && pace .new) ≡ false) → m′ ≡ beside → Passes width y old new pace beside m′
+      onto off e = record {
+        others = λ no-beside. absurd (no-beside refl);
+        known = λ b. omega (arith, e);
+        alike = λ b z. absurd (omega (arith, e, z));
+        differs = λ b z. absurd (omega (arith, e, z));
+        onwards = λ b z p q i. past width y (pace .old) old p oldDrawn (off .0) ∙ i ∙ sym (past width y (pace .new) new q newDrawn (off .1));
+        back = λ b z p q i. sym (past width y (pace .old) old p oldDrawn (off .0)) ∙ i ∙ past width y (pace .new) new q newDrawn (off .1);
+      }
+
+      apart-here : (meetsRow old width y && meetsRow new width y) ≡ true → m′ ≡ 1 → Passes width y old new pace beside m′
+      apart-here both e =
+          let r = both-true (meetsRow old width y) (meetsRow new width y) both in
+          record {
+            others = λ no-beside. absurd (no-beside refl);
+            known = λ b. omega (arith, e);
+            alike = λ b z. absurd (omega (arith, e, z));
+            differs = λ b z p q. both-met width y old new p q apart (r .0) (r .1);
+            onwards = λ b z. absurd (omega (arith, e, z));
+            back = λ b z. absurd (omega (arith, e, z));
+          }
+
+      left : m′ ≡ later → Passes width y old new pace beside m′
+      left e = record {
+        others = λ no-beside. absurd (no-beside refl);
+        known = λ b. omega (arith, e);
+        alike = λ b z. absurd (omega (arith, e, z));
+        differs = λ b z. absurd (omega (arith, e, z));
+        onwards = λ b z. absurd (omega (arith, e, z));
+        back = λ b z. absurd (omega (arith, e, z));
+      }
+
+      further : (c : Bool) → ((meetsRow old width y && pace .old) || (meetsRow new width y && pace .new)) ≡ c → (meetsRow old width y && meetsRow new width y) ≡ false → Passes width y old new pace beside m′
+      further true e none = left (is ∙ rw (none, e))
+      further false e none = onto (split (meetsRow old width y) (meetsRow new width y) (pace .old) (pace .new) none e) (is ∙ rw (none, e))
+
+      go : (b : Bool) → (meetsRow old width y && meetsRow new width y) ≡ b → Passes width y old new pace beside m′
+      go true e = apart-here e (is ∙ rw e)
+      go false e = further ((meetsRow old width y && pace .old) || (meetsRow new width y && pace .new)) refl e
+
+-- a row that does not stand beside stays as it is
+pub unmoved : (width y : ℕ) (old new : Find) (pace : Pace) {m m′ : ℕ} → (m ≡ beside → ⊥) → m′ ≡ m → Passes width y old new pace m m′
+unmoved width y old new pace off e = record {
+  others = λ o. e;
+  known = λ b. absurd (off b);
+  alike = λ b. absurd (off b);
+  differs = λ b. absurd (off b);
+  onwards = λ b. absurd (off b);
+  back = λ b. absurd (off b);
 }
 
-module _ (width y end : ℕ) where
-  pub pass-both : (a b : Action) → a ≡ b → y < end → Paces width y end (f.Drew a) (f.Drew b) (record { old = true; new = true; end = end; mark = 0 })
-  unfolding isDrawn passed withRest
-  pass-both a b same h = record {
-    from = h;
-    to = omega arith;
-    oldDrawn = λ e. refl;
-    newDrawn = λ e. refl;
-    passes = λ k l m p q e. both-passed width k a p q (e ∙ rw same);
-    returns = λ k l m p q e. both-returned width k a p q e ∙ rw same;
-    settles = λ e. never (sym e);
+-- the same action in both lists
+same-action : (a b : Action) → a ∷ [] ≡ b ∷ [] → a ≡ b
+same-action a b e = head-eq-of-cons-eq e
+
+pub same-passed : (width y : ℕ) (old new : Find) {m : ℕ} → here old ≡ here new → isDrawn old ≡ true → Passes width y old new (record { old = true; new = true }) m m
+unfolding here isDrawn passed withRest
+same-passed width y (f.Drew a) (f.Drew b) e d =
+    let s : a ≡ b = same-action a b e in
+    record {
+      others = λ o. refl;
+      known = λ i. omega (arith, i);
+      alike = λ i z. absurd (omega (arith, i, z));
+      differs = λ i z. absurd (omega (arith, i, z));
+      onwards = λ i z p q k. both-passed width y a p q (k ∙ rw s);
+      back = λ i z p q k. both-returned width y a p q k ∙ rw s;
+    }
+same-passed width y (f.Drew a) (f.Over n i) e d = absurd (cons-ne-nil a [] e)
+same-passed width y (f.Over n i) new e d = never d
+
+-- both lists have ended
+pub both-over : (width y : ℕ) (old new : Find) {m m′ : ℕ} → here old ≡ here new → isDrawn old ≡ false → (m ≡ beside → m′ ≡ 0) → ((m ≡ beside → ⊥) → m′ ≡ m) → Passes width y old new (record { old = false; new = false }) m m′
+unfolding here isDrawn passed withRest
+both-over width y (f.Drew a) new e d z o = never (sym d)
+both-over width y (f.Over n i) (f.Drew b) e d z o = absurd (cons-ne-nil b [] (sym e))
+both-over width y (f.Over n i) (f.Over l j) e d z o = record {
+  others = o;
+  known = λ b. omega (arith, z b);
+  alike = λ b k p q. refl;
+  differs = λ b k. absurd (omega (arith, k, z b));
+  onwards = λ b k. absurd (omega (arith, k, z b));
+  back = λ b k. absurd (omega (arith, k, z b));
+}
+
+-- ALL ROWS
+-- what two finds of which only one may be drawn are told apart by
+pub tell-drawn : (a b : Action) {r : Bool} → Tells r (a ≡ b) → Tells r (here (f.Drew a) ≡ here (f.Drew b))
+unfolding here
+tell-drawn a b t = record { holds = λ e. ap (λ (x : Action). x ∷ []) (t .holds e); told = λ e. t .told (same-action a b e) }
+
+pub tell-left : (a : Action) (n i : ℕ) → Tells false (here (f.Drew a) ≡ here (f.Over n i))
+unfolding here
+tell-left a n i = record { holds = λ e. never e; told = λ e. absurd (cons-ne-nil a [] e) }
+
+pub tell-right : (n i : ℕ) (b : Action) → Tells false (here (f.Over n i) ≡ here (f.Drew b))
+unfolding here
+tell-right n i b = record { holds = λ e. never e; told = λ e. absurd (cons-ne-nil b [] (sym e)) }
+
+pub tell-over : (n i m j : ℕ) → Tells true (here (f.Over n i) ≡ here (f.Over m j))
+unfolding here
+tell-over n i m j = record { holds = λ e. refl; told = λ e. refl }
+
+drawn-too : (old new : Find) → here old ≡ here new → isDrawn old ≡ true → isDrawn new ≡ true
+unfolding here isDrawn
+drawn-too (f.Drew a) (f.Drew b) e d = refl
+drawn-too (f.Drew a) (f.Over n i) e d = absurd (cons-ne-nil a [] e)
+drawn-too (f.Over n i) new e d = never d
+
+module _ {width y : ℕ} (old new : Find) {marks : List ℕ} where
+  pub compare-same : here old ≡ here new → isDrawn old ≡ true → getD marks y 0 ≡ beside → Compares width y old new (record { old = true; new = true }) marks marks
+  compare-same e d at = record {
+    oldDrawn = λ t. d;
+    newDrawn = λ t. drawn-too old new e d;
+    rows = λ k h. same-passed width k old new e d;
+    kept = λ z. absurd (omega (arith, z, at));
+    moves = inl refl;
   }
 
-  -- an action that reaches no row up to the end
-  pub pass-old :
-      {a : Action} (new : Find) {row : ℕ} (mark : ℕ) → Seeks a width y end true row → y < row →
-      Paces width y end (f.Drew a) new (record { old = true; new = false; end = row; mark = mark })
-  unfolding isDrawn passed withRest
-  pass-old {a} new {row} mark s h = record {
-    from = h;
-    to = s .to;
-    oldDrawn = λ e. refl;
-    newDrawn = λ e. never e;
-    passes = λ k l m p q e. sym (reach-out width k a p (s .before k l m)) ∙ e;
-    returns = λ k l m p q e. reach-out width k a p (s .before k l m) ∙ e;
-    settles = λ e. never (sym e);
+  pub compare-over : {marks′ : List ℕ} → here old ≡ here new → isDrawn old ≡ false → y < length marks → getD marks y 0 ≡ beside → Turns beside 0 marks marks′ → Compares width y old new (record { old = false; new = false }) marks marks′
+  compare-over {marks′} e d h at t = record {
+    oldDrawn = λ i. never i;
+    newDrawn = λ i. never i;
+    rows = λ k l. both-over width k old new e d (t .turned k l) (t .others k l);
+    kept = λ z. absurd (omega (arith, z, t .turned y h at));
+    moves = inr (λ z. absurd (omega (arith, z, t .turned y h at)));
   }
 
-  pub pass-new :
-      {b : Action} (old : Find) {row : ℕ} (mark : ℕ) → Seeks b width y end true row → y < row →
-      Paces width y end old (f.Drew b) (record { old = false; new = true; end = row; mark = mark })
-  pass-new old mark s h = turn (pass-old old mark s h)
-
-  -- neither list goes on
-  stop :
-      (old new : Find) (last mark : ℕ) → y < last → last ≤ end →
-      ((k : ℕ) → y ≤ k → k < last → (p q : List Action) → Mark mark (reaching width k (withRest old p)) (reaching width k (withRest new q))) →
-      Paces width y end old new (record { old = false; new = false; end = last; mark = mark })
-  unfolding passed
-  stop old new last mark from to settled = record {
-    from = from;
-    to = to;
-    oldDrawn = λ e. never e;
-    newDrawn = λ e. never e;
-    passes = λ k l m p q e. e;
-    returns = λ k l m p q e. e;
-    settles = λ o n. settled;
+  pub compare-apart : {marks′ : List ℕ} → (p q : ℕ) → (here old ≡ here new → ⊥) → y < length marks → getD marks y 0 ≡ beside → Stood width old new (paceOf old new p q width y) marks marks′ → Compares width y old new (paceOf old new p q width y) marks marks′
+  compare-apart {marks′} p q apart h at s = record {
+    oldDrawn = pace-old old new p q width y;
+    newDrawn = pace-new old new p q width y;
+    rows = λ k l. row k l (eqb (getD marks k 0) beside) refl;
+    kept = λ z. not-later old new p q width y (sym (s .moved y h at) ∙ z);
+    moves = ⊎-elim (λ g. inl g) (λ z. inr (λ i. z (sym (s .moved y h at) ∙ i))) (some-goes old new p q width y);
   }
-
-  -- two actions that differ and reach the same rows
-  pub stop-both :
-      (a b : Action) {is : Bool} {oldRow newRow both last : ℕ} → Tells is (a ≡ b) → is ≡ false → y < end →
-      Seeks a width y end true oldRow → Seeks b width y end true newRow → (eqb oldRow y && eqb newRow y) ≡ true →
-      Seeks a width y end false both → Seeks b width y both false last →
-      Paces width y end (f.Drew a) (f.Drew b) (record { old = false; new = false; end = last; mark = 1 })
-  unfolding withRest
-  stop-both a b {both = both} {last} tells differ h sa sb found s t =
-      let here = both-true _ _ found in
-      let ra = reached-here h sa (here .0) in
-      let rb = reached-here h sb (here .1) in
-      stop (f.Drew a) (f.Drew b) last 1 (seek-past t (seek-past s h ra) rb) (omega (arith, s .to, t .to))
-      (λ k l m p q.
-      inl (
-        refl,
-        λ e.
-            never (sym differ ∙ tells .told
-            (head-eq-of-cons-eq
-            (sym (reach-in width k a p (s .before k l (omega (arith, t .to)))) ∙ e ∙ reach-in width k b q (t .before k l m)))),
-      ))
-
-  pub alone-stops :
-      {a : Action} {row last : ℕ} → y < end → Seeks a width y end true row → row ≡ y → Seeks a width y end false last →
-      PacesAlone a width y end (record { goes = false; end = last })
-  alone-stops {a} {row} {last} h s e t =
-      record { from = seek-past t h (rw e at (s .at (omega arith))); to = t .to; rows = t .before }
-
-  pub alone-goes : {a : Action} {row : ℕ} → Seeks a width y end true row → (row ≡ y → ⊥) → PacesAlone a width y end (record { goes = true; end = row })
-  alone-goes {a} {row} s e = record { from = lt-of-le-of-ne (s .from) (λ g. e (sym g)); to = s .to; rows = s .before }
-
-  -- an action that the other list has nothing beside
-  pub alone-old :
-      {a : Action} (number place : ℕ) {alone : Alone} → PacesAlone a width y end alone →
-      Paces width y end (f.Drew a) (f.Over number place) (record { old = alone .goes; new = false; end = alone .end; mark = 1 })
-  unfolding isDrawn passed withRest
-  alone-old {a} number place {alone} r = go (alone .goes) refl
     where
-      go : (b : Bool) → alone .goes ≡ b → Paces width y end (f.Drew a) (f.Over number place) (record { old = alone .goes; new = false; end = alone .end; mark = 1 })
-      go true e = rw e record {
-        from = r .from;
-        to = r .to;
-        oldDrawn = λ d. refl;
-        newDrawn = λ d. never d;
-        passes = λ k l m p q i. sym (reach-out width k a p (r .rows k l m ∙ rw e)) ∙ i;
-        returns = λ k l m p q i. reach-out width k a p (r .rows k l m ∙ rw e) ∙ i;
-        settles = λ d. never (sym d);
-      }
-      go false e =
-          rw e
-          (stop (f.Drew a) (f.Over number place) (alone .end) 1 (r .from) (r .to)
-          (λ k l m p q. inl (refl, λ i. cons-ne-nil a _ (sym (reach-in width k a p (r .rows k l m ∙ rw e)) ∙ i ∙ reach-none width k))))
-
-  pub alone-new :
-      {b : Action} (number place : ℕ) {alone : Alone} → PacesAlone b width y end alone →
-      Paces width y end (f.Over number place) (f.Drew b) (record { old = false; new = alone .goes; end = alone .end; mark = 1 })
-  alone-new number place r = turn (alone-old number place r)
-
-  -- both have ended
-  pub stop-over :
-      (number place number′ place′ : ℕ) → y < end →
-      Paces width y end (f.Over number place) (f.Over number′ place′) (record { old = false; new = false; end = end; mark = 0 })
-  unfolding withRest
-  stop-over number place number′ place′ h =
-      stop (f.Over number place) (f.Over number′ place′) end 0 h (omega arith) (λ k l m p q. inr (refl, refl))
+      row : (k : ℕ) → k < length marks → (b : Bool) → eqb (getD marks k 0) beside ≡ b → Passes width k old new (paceOf old new p q width y) (getD marks k 0) (getD marks′ k 0)
+      row k l true b =
+          let e = eqb-true (getD marks k 0) beside b in
+          rw e (stood width k old new (paceOf old new p q width y) apart (pace-old old new p q width y) (pace-new old new p q width y) (s .moved k l e))
+      row k l false b =
+          let e = eqb-false (getD marks k 0) beside b in
+          unmoved width k old new (paceOf old new p q width y) e (s .others k l e)

@@ -1,158 +1,188 @@
-// Two lists side by side, each at an action: which of them goes on, and for which rows that settles nothing or all.
-ghost use mathlib.Core.Bool.{true};
+// Two lists side by side, each at an action or at its end: which of them goes on, and what that tells of the rows.
+ghost use mathlib.Core.Path.{_≡_};
 ghost use Prim.Native.Nat.{_<_, _≤_};
-ghost use Rattle.repaint.specs.Rows.{Seeks, Paces, PacesAlone};
+ghost use lib.ListN.{length, getD};
+ghost use Rattle.action.specs.Same.{Tells};
+ghost use Rattle.repaint.specs.Rows.{Bounded, Compares, Stood, Touches, Turns, beside, here, isDrawn, meetsRow, paceOf, standing};
 use action::Action;
 use engine::Find;
 use paint::reach;
+use paint::reach::Band;
 
-// Which of the two lists goes on. It holds for the rows before `end`; where neither goes on, these have the mark.
+// How a row stands that has no mark yet, which is 0 or 1.
+pub const LATER: u8 = 2;
+
+pub const BESIDE: u8 = 3;
+
+// Which of the two lists goes on.
 pub struct Pace {
     pub old: bool,
     pub new: bool,
-    pub end: u32,
-    pub mark: u8,
 }
 
-pub struct Alone {
-    pub goes: bool,
-    pub end: u32,
+// Numbers that compare as what the two lists have ahead of them does.
+pub struct Ahead {
+    pub old: u64,
+    pub new: u64,
 }
 
-// The first row from y on that the action reaches, or the first that it does not; `end` if there is none before it.
-fn seek(action: Action, width: u32, y: u32, end: u32, reached: bool) -> u32
-    requires { ⌜ y ≤ end ⌝ }
-    ensures { λ r. ⌜ Seeks action width y end reached r ⌝ }
+fn is_drawn(find: Find) -> bool
+    ensures { λ r. ⌜ r ≡ isDrawn find ⌝ }
 {
-    let mut row = y;
-    while row < end {
-        if reach::reaches(action, width, row) == reached {
-            return row;
-        }
-        row += 1;
-    }
-    end
-}
-
-// The same as to seek a row that is reached, but for the rows outside of the action's band, which it leaves out.
-fn first_row(action: Action, width: u32, y: u32, end: u32) -> u32
-    requires { ⌜ (y ≤ end) × ((end ≤ 600) × (width ≤ 800)) ⌝ }
-    ensures { λ r. ⌜ Seeks action width y end true r ⌝ }
-{
-    let band = reach::rows_of(action);
-    let from = reach::most(y, band.top);
-    let to = reach::least(end, band.bottom);
-    if to <= from {
-        return end;
-    }
-    let row = seek(action, width, from, to, true);
-    if row < to {
-        return row;
-    }
-    end
-}
-
-// Equal actions are passed in both lists. Of two others the one that reaches its first row later is passed, and the rows
-// from there on are left for later; if both reach row y, it differs.
-fn compare_actions(old: Action, new: Action, width: u32, y: u32, end: u32) -> Pace
-    requires { ⌜ (y < end) × ((end ≤ 600) × (width ≤ 800)) ⌝ }
-    ensures { λ r. ⌜ Paces width y end (Find.Drew old) (Find.Drew new) r ⌝ }
-{
-    if old.is(new) {
-        return Pace {
-            old: true,
-            new: true,
-            end: end,
-            mark: 0,
-        };
-    }
-    let old_row = first_row(old, width, y, end);
-    let new_row = first_row(new, width, y, end);
-    if (old_row == y) & (new_row == y) {
-        let both = seek(old, width, y, end, false);
-        return Pace {
-            old: false,
-            new: false,
-            end: seek(new, width, y, both, false),
-            mark: 1,
-        };
-    }
-    if new_row <= old_row {
-        return Pace {
-            old: true,
-            new: false,
-            end: old_row,
-            mark: 0,
-        };
-    }
-    Pace {
-        old: false,
-        new: true,
-        end: new_row,
-        mark: 0,
+    match find {
+        Find::Drew(_) => true,
+        Find::Over {
+            number: _,
+            place: _,
+        } => false,
     }
 }
 
-// An action whose other list has ended: row y differs if it is reached.
-fn compare_alone(action: Action, width: u32, y: u32, end: u32) -> Alone
-    requires { ⌜ (y < end) × ((end ≤ 600) × (width ≤ 800)) ⌝ }
-    ensures { λ r. ⌜ PacesAlone action width y end r ⌝ }
-{
-    let row = first_row(action, width, y, end);
-    if row == y {
-        return Alone {
-            goes: false,
-            end: seek(action, width, y, end, false),
-        };
-    }
-    Alone {
-        goes: true,
-        end: row,
-    }
-}
-
-pub fn compare(old: Find, new: Find, width: u32, y: u32, end: u32) -> Pace
-    requires { ⌜ (y < end) × ((end ≤ 600) × (width ≤ 800)) ⌝ }
-    ensures { λ r. ⌜ Paces width y end old new r ⌝ }
+fn is_same(old: Find, new: Find) -> bool
+    ensures { λ r. ⌜ Tells r (here old ≡ here new) ⌝ }
 {
     match old {
         Find::Drew(a) => match new {
-            Find::Drew(b) => compare_actions(a, b, width, y, end),
+            Find::Drew(b) => a.is(b),
             Find::Over {
                 number: _,
                 place: _,
-            } => {
-                let alone = compare_alone(a, width, y, end);
-                Pace {
-                    old: alone.goes,
-                    new: false,
-                    end: alone.end,
-                    mark: 1,
-                }
-            }
+            } => false,
         },
         Find::Over {
             number: _,
             place: _,
         } => match new {
-            Find::Drew(b) => {
-                let alone = compare_alone(b, width, y, end);
-                Pace {
-                    old: false,
-                    new: alone.goes,
-                    end: alone.end,
-                    mark: 1,
-                }
-            }
+            Find::Drew(_) => false,
             Find::Over {
                 number: _,
                 place: _,
-            } => Pace {
-                old: false,
-                new: false,
-                end: end,
-                mark: 0,
-            },
+            } => true,
         },
     }
+}
+
+// Nothing comes any more of a list that has ended: that tells of every row, as an action does of the rows that it reaches.
+fn meets(find: Find, width: u32, y: u32) -> bool
+    ensures { λ r. ⌜ r ≡ meetsRow find width y ⌝ }
+{
+    match find {
+        Find::Drew(action) => reach::reaches(action, width, y),
+        Find::Over {
+            number: _,
+            place: _,
+        } => true,
+    }
+}
+
+fn rows_of(find: Find) -> Band
+    ensures { λ r. ⌜ Bounded find (r .top) (r .bottom) ⌝ }
+{
+    match find {
+        Find::Drew(action) => reach::rows_of(action),
+        Find::Over {
+            number: _,
+            place: _,
+        } => Band {
+            top: 0,
+            bottom: 600,
+        },
+    }
+}
+
+// By row y: a list whose action reaches the row waits. Where both could go on, the one does that has more of its list ahead:
+// past words that were put in or taken out, the two then come to the same action again.
+fn choose(old: Find, new: Find, ahead: Ahead, width: u32, y: u32) -> Pace
+    ensures { λ r. ⌜ r ≡ paceOf old new (ahead .old) (ahead .new) width y ⌝ }
+{
+    let a = meets(old, width, y);
+    let b = meets(new, width, y);
+    Pace {
+        old: !a & (b | (ahead.new <= ahead.old)),
+        new: !b & (a | (ahead.old <= ahead.new)),
+    }
+}
+
+// What becomes of a row that stands beside. One that a passed action alone reaches is left for later.
+fn stand(old: bool, new: bool, pace: Pace) -> u8
+    ensures { λ r. ⌜ r ≡ standing old new pace ⌝ }
+{
+    if old & new {
+        return 1;
+    }
+    if (old & pace.old) | (new & pace.new) {
+        return LATER;
+    }
+    BESIDE
+}
+
+// The rows that can stand otherwise after this step: those of the actions that are passed.
+fn touched(old: Find, new: Find, pace: Pace) -> Band
+    ensures { λ r. ⌜ Touches old new pace (r .top) (r .bottom) ⌝ }
+{
+    if !pace.new {
+        return rows_of(old);
+    }
+    if !pace.old {
+        return rows_of(new);
+    }
+    let a = rows_of(old);
+    let b = rows_of(new);
+    Band {
+        top: reach::least(a.top, b.top),
+        bottom: reach::most(a.bottom, b.bottom),
+    }
+}
+
+fn settle(old: Find, new: Find, pace: Pace, width: u32, from: u32, to: u32, marks: &mut [u8])
+    requires { ⌜ Touches old new pace from to × ((length (now marks) ≤ 600) × (width ≤ 800)) ⌝ }
+    ensures { λ _. ⌜ Stood width old new pace (now (marks .entry)) (now (marks .exit)) ⌝ }
+{
+    let end = reach::least(to, marks.len() as u32) as usize;
+    let mut y = from as usize;
+    while y < end {
+        if marks[y] == BESIDE {
+            let a = meets(old, width, y as u32);
+            let b = meets(new, width, y as u32);
+            marks[y] = stand(a, b, pace);
+        }
+        y += 1;
+    }
+}
+
+// Rows that stand in the one way stand in the other from now on.
+pub fn turn(marks: &mut [u8], was: u8, then: u8)
+    ensures { λ _. ⌜ Turns was then (now (marks .entry)) (now (marks .exit)) ⌝ }
+{
+    let mut y: usize = 0;
+    while y < marks.len() {
+        if marks[y] == was {
+            marks[y] = then;
+        }
+        y += 1;
+    }
+}
+
+// Row y stands beside, and is not left for later.
+pub fn compare(old: Find, new: Find, ahead: Ahead, width: u32, y: u32, marks: &mut [u8]) -> Pace
+    requires { ⌜ ((y < length (now marks)) × (getD (now marks) y 0 ≡ beside)) × ((length (now marks) ≤ 600) × (width ≤ 800)) ⌝ }
+    ensures { λ r. ⌜ Compares width y old new r (now (marks .entry)) (now (marks .exit)) ⌝ }
+{
+    if is_same(old, new) {
+        if is_drawn(old) {
+            return Pace {
+                old: true,
+                new: true,
+            };
+        }
+        turn(marks, BESIDE, 0);
+        return Pace {
+            old: false,
+            new: false,
+        };
+    }
+    let pace = choose(old, new, ahead, width, y);
+    let rows = touched(old, new, pace);
+    settle(old, new, pace, width, rows.top, rows.bottom, marks);
+    pace
 }

@@ -1,22 +1,31 @@
-// Repaint: which rows an edit of a list reaches, and their repair. Both lists are run side by side, from action to action,
-// and never as a whole: nothing of them is kept.
+// Repaint: which rows an edit of a list reaches, and their repair.
+//
+// Both lists are run side by side, from action to action, and no action is kept. A row stands beside as long as the actions
+// passed so far reach it alike in both lists. Where the two come to different actions, a row that both reach differs, and
+// it is marked. One of them is then passed; a row that it reaches alone cannot be told in this walk and is left for
+// a later one. What still stands beside when both lists have ended is alike. Each walk settles the row that decides which
+// list goes on, so there are no more walks than rows; a word that is changed takes one, an action put in takes two.
 ghost use mathlib.Core.Path.{_≡_};
-ghost use Prim.Native.Nat.{ℕ, _<_, _≤_, _*_, _^_};
+ghost use Prim.Native.Nat.{ℕ, _+_, _<_, _≤_, _*_, _^_};
 ghost use lib.ListN.{length};
 ghost use Rattle.engine.specs.Run.{run, atStart};
 ghost use Rattle.paint.specs.Picture.{mended, rowColours, rowTags};
 ghost use Rattle.repaint.specs.Repaint.{Marks, marked};
-ghost use Rattle.repaint.specs.Rows.{Fills, GoesOn, Settles};
+ghost use Rattle.repaint.specs.Rows.{Begins, GoesOn, Seeks, Walks};
 
 mod compare;
 
+use compare::Ahead;
+use compare::BESIDE;
+use compare::LATER;
 use engine::Advanced;
 use engine::Engine;
 
-// The rows up to the end have one mark.
-pub struct Settled {
-    pub end: u32,
-    pub mark: u8,
+fn sum(length: usize, place: u32) -> u64
+    requires { ⌜ length ≤ 8192 ⌝ }
+    ensures { λ r. ⌜ r ≡ length + place ⌝ }
+{
+    length as u64 + place as u64
 }
 
 fn go_on(goes: bool, at: Advanced, handles: &mut [u32; 512], list: &[u8], memory: u32) -> Advanced
@@ -30,50 +39,47 @@ fn go_on(goes: bool, at: Advanced, handles: &mut [u32; 512], list: &[u8], memory
     at
 }
 
-// As many rows from y on as one run of both lists settles.
-fn settle(
-    old: &[u8],
-    new: &[u8],
-    memory: u32,
-    limit: u32,
-    width: u32,
-    y: u32,
-    height: u32,
-) -> Settled
+// The first row from y on that stands so, or the number of rows.
+fn seek(marks: &[u8], y: u32, stand: u8) -> u32
+    requires { ⌜ (y ≤ length (now marks)) × (length (now marks) ≤ 600) ⌝ }
+    ensures { λ r. ⌜ Seeks (now (marks .entry)) y stand r ⌝ }
+{
+    let mut row = y;
+    while row < marks.len() as u32 {
+        if marks[row as usize] == stand {
+            return row;
+        }
+        row += 1;
+    }
+    row
+}
+
+// Goes once through both lists. Each row that stands beside is settled or left for later; row y is the first of them, and
+// decides which list goes on until it is settled, then the next that still stands beside.
+fn walk(old: &[u8], new: &[u8], memory: u32, limit: u32, width: u32, y: u32, marks: &mut [u8])
     requires { ⌜ (length (now old) ≤ 8192) × ((length (now new) ≤ 8192) × (memory ≤ 2 ^ 20)) ⌝ }
-    requires { ⌜ (y < height) × ((height ≤ 600) × (width ≤ 800)) ⌝ }
-    ensures { λ r. ⌜ Settles (run (now (old .entry)) memory limit atStart .actions) (run (now (new .entry)) memory limit atStart .actions) width y height r ⌝ }
+    requires { ⌜ ((length (now marks) ≤ 600) × (width ≤ 800)) × Begins (run (now old) memory limit atStart .actions) (run (now new) memory limit atStart .actions) width y (now marks) ⌝ }
+    ensures { λ _. ⌜ Walks (run (now (old .entry)) memory limit atStart .actions) (run (now (new .entry)) memory limit atStart .actions) width y (now (marks .entry)) (now (marks .exit)) ⌝ }
 {
     let mut old_handles = [0; 512];
     let mut new_handles = [0; 512];
     let start = Engine::start();
     let mut old_run = engine::advance(start, &mut old_handles, old, memory, limit, true);
     let mut new_run = engine::advance(start, &mut new_handles, new, memory, limit, true);
-    let mut old_find = old_run.find;
-    let mut new_find = new_run.find;
-    let mut pace = compare::compare(old_find, new_find, width, y, height);
-    while pace.old | pace.new {
+    let height = marks.len() as u32;
+    let mut row = y;
+    while row < height {
+        let a = old_run.find;
+        let b = new_run.find;
+        // A list's length less its place; the other's place, added to both, leaves no number below 0.
+        let ahead = Ahead {
+            old: sum(old.len(), new_run.engine.now.at),
+            new: sum(new.len(), old_run.engine.now.at),
+        };
+        let pace = compare::compare(a, b, ahead, width, row, marks);
         old_run = go_on(pace.old, old_run, &mut old_handles, old, memory);
         new_run = go_on(pace.new, new_run, &mut new_handles, new, memory);
-        old_find = old_run.find;
-        new_find = new_run.find;
-        pace = compare::compare(old_find, new_find, width, y, pace.end);
-    }
-    Settled {
-        end: pace.end,
-        mark: pace.mark,
-    }
-}
-
-fn fill(marks: &mut [u8], from: u32, to: u32, mark: u8)
-    requires { ⌜ to ≤ length (now marks) ⌝ }
-    ensures { λ _. ⌜ Fills from to mark (now (marks .entry)) (now (marks .exit)) ⌝ }
-{
-    let end = to as usize;
-    let mut y = from as usize;
-    while y < end {
-        marks[y] = mark;
-        y += 1;
+        row = seek(marks, row, BESIDE);
     }
 }
 
@@ -83,12 +89,13 @@ fn mark(old: &[u8], new: &[u8], memory: u32, limit: u32, width: u32, marks: &mut
     requires { ⌜ (length (now marks) ≤ 600) × (width ≤ 800) ⌝ }
     ensures { λ _. ⌜ Marks (run (now (old .entry)) memory limit atStart .actions) (run (now (new .entry)) memory limit atStart .actions) width (length (now (marks .entry))) (now (marks .exit)) ⌝ }
 {
+    paint::flood(marks, LATER);
     let height = marks.len() as u32;
     let mut y: u32 = 0;
     while y < height {
-        let next = settle(old, new, memory, limit, width, y, height);
-        fill(marks, y, next.end, next.mark);
-        y = next.end;
+        compare::turn(marks, LATER, BESIDE);
+        walk(old, new, memory, limit, width, y, marks);
+        y = seek(marks, y, LATER);
     }
 }
 

@@ -1,5 +1,5 @@
 use borrow.Author.Needs.{needs}
-use Rattle.repaint.proofs.Beside.{goes, stays}
+use Rattle.repaint.proofs.Runs.{goes, stays}
 use Rattle.repaint.proofs.go_on.Statement.{statement}
 use Rattle.repaint.proofs.go_on.Tie as tie
 

@@ -1,61 +1,62 @@
+use mathlib.Core.Path.{_∙_, sym}
 use borrow.Author.Needs.{needs}
-use Rattle.repaint.proofs.Sides.{alone-new, alone-old, stop-over}
+use Rattle.shape.proofs.Bools.{never}
+use Rattle.repaint.proofs.Sides.{compare-apart, compare-over, compare-same}
 use Rattle.repaint.proofs.compare.compare.Statement.{statement}
 use Rattle.repaint.proofs.compare.compare.Tie as tie
 
-enum-known-old : tie.Need-enum-known-old
-enum-known-old c = search needs
+is-same-requires : tie.Need-is-same-requires
+is-same-requires c κs = search needs
 
-enum-known-new : tie.Need-enum-known-new
-enum-known-new c = search needs
-
-compare-actions-requires : tie.Need-compare-actions-requires
-compare-actions-requires c κs = c .before .before .before .before .before .before .pre
-
-enum-told : tie.Need-enum-told
-enum-told c = search needs
-
-compare-alone-requires : tie.Need-compare-alone-requires
-compare-alone-requires c κs = c .before .before .before .before .before .pre
-
-enum-told-2 : tie.Need-enum-told-2
-enum-told-2 c = search needs
-
-enum-known-new-2 : tie.Need-enum-known-new-2
-enum-known-new-2 c = search needs
-
-compare-alone-requires-2 : tie.Need-compare-alone-requires-2
-compare-alone-requires-2 c κs = c .before .before .before .before .before .pre
-
-enum-told-3 : tie.Need-enum-told-3
-enum-told-3 c = search needs
+is-drawn-requires : tie.Need-is-drawn-requires
+is-drawn-requires c κs = search needs
 
 returns : tie.Need-returns
-returns c = rw (c .before .before .before .before .before .old .given .1, c .before .before .new .given .1) (c .compare-actions .ensures)
+returns c =
+    compare-same _ _ (c .before .before .before .is-same .ensures .holds (c .before .before .if1 .taken)) (sym (c .before .is-drawn .ensures) ∙ c .if2 .taken) (c .before .before .before .before .before .pre .0 .1)
+
+turn-requires : tie.Need-turn-requires
+turn-requires c κs = search needs
+
+same-length : tie.Need-same-length
+same-length c = search needs
 
 returns-2 : tie.Need-returns-2
-returns-2 c = rw (c .before .before .before .before .old .given .1, c .before .enum-told .given .1) (alone-old _ _ _ _ _ (c .compare-alone .ensures))
+returns-2 c =
+    let p = c .before .before .before .before .before .before .before .before .before .pre .0 in
+    compare-over _ _ (c .before .before .before .before .before .before .before .is-same .ensures .holds (c .before .before .before .before .before .before .if1 .taken)) (sym (c .before .before .before .before .before .is-drawn .ensures) ∙ c .before .before .before .before .if2 .left) (p .0) (p .1) (c .before .before .turn .ensures)
+
+choose-requires : tie.Need-choose-requires
+choose-requires c κs = search needs
+
+touched-requires : tie.Need-touched-requires
+touched-requires c κs = search needs
+
+settle-requires : tie.Need-settle-requires
+settle-requires c κs = (c .before .touched .ensures, c .before .before .before .before .before .before .pre .1)
+
+same-length-2 : tie.Need-same-length-2
+same-length-2 c = search needs
 
 returns-3 : tie.Need-returns-3
-returns-3 c = rw (c .before .before .before .before .enum-told2 .given .1, c .before .before .new2 .given .1) (alone-new _ _ _ _ _ (c .compare-alone2 .ensures))
-
-returns-4 : tie.Need-returns-4
-returns-4 c = rw (c .before .before .enum-told2 .given .1, c .enum-told3 .given .1) (stop-over _ _ _ _ _ _ _ (c .before .before .before .before .pre .0))
+returns-3 c =
+    let p = c .before .before .before .before .before .before .before .before .before .pre .0 in
+    rw (c .before .before .before .before .before .choose .ensures)
+    (compare-apart _ _ _ _ (λ e. never (sym (c .before .before .before .before .before .before .if1 .left) ∙ c .before .before .before .before .before .before .before .is-same .ensures .told e)) (p .0) (p .1)
+    (rw (c .before .before .before .before .before .choose .ensures) at (c .before .before .settle .ensures)))
 
 pub compare-spec : {M : Type 1} → statement M
 compare-spec =
     tie.close
     (tie.spec
-    enum-known-old
-    enum-known-new
-    compare-actions-requires
-    enum-told
-    compare-alone-requires
-    enum-told-2
-    enum-known-new-2
-    compare-alone-requires-2
-    enum-told-3
+    is-same-requires
+    is-drawn-requires
     returns
+    turn-requires
+    same-length
     returns-2
-    returns-3
-    returns-4)
+    choose-requires
+    touched-requires
+    settle-requires
+    same-length-2
+    returns-3)
