@@ -1,13 +1,15 @@
 #include "scenes.h"
 
+#include <stdbool.h>
 #include <string.h>
 
 #include "../tests/list_words.h"
 
-/* A list being written. */
+/* A list being written, with its edit. */
 typedef struct {
     uint32_t *words;
     size_t count;
+    bool is_word_changed, is_action_inserted;
 } draft;
 
 static void put(draft *d, uint32_t word)
@@ -33,6 +35,12 @@ static void put_colour(draft *d, uint32_t n)
     put(d, COLOR_RGB(64 + 37 * n % 192, 64 + 59 * n % 192, 64 + 83 * n % 192));
 }
 
+/* The edit's other colour, like none that goes with an n. */
+static void put_other_colour(draft *d)
+{
+    put(d, COLOR_RGB(255, 0, 0));
+}
+
 static void put_clear(draft *d)
 {
     put(d, CLEAR_COLOR_RGB(16, 24, 48));
@@ -41,7 +49,8 @@ static void put_clear(draft *d)
 
 /* ---- Shapes ---- */
 
-enum { LARGE_SHAPES = 20 };
+/* The one in the middle is a rectangle with a line width of 10 pixels. */
+enum { LARGE_SHAPES = 20, MIDDLE_SHAPE = 9 };
 
 static void put_large_point(draft *d, uint32_t n)
 {
@@ -62,36 +71,50 @@ static void write_shapes(draft *d)
 {
     put_clear(d);
     for (uint32_t n = 0; n < LARGE_SHAPES; n++) {
-        put_colour(d, n);
+        if (n == MIDDLE_SHAPE && d->is_word_changed)
+            put_other_colour(d);
+        else
+            put_colour(d, n);
         put(d, COLOR_A(n / 2 % 2 == 0 ? 255 : 96 + 8 * n));
         put(d, TAG(n + 1));
         if (n % 2 == 0)
             put_large_point(d, n);
         else
             put_large_rectangle(d, n);
+        if (n == MIDDLE_SHAPE && d->is_action_inserted) {
+            put(d, BEGIN(RECTS));
+            put_rectangle(d, 300, 300, 40, 3);
+        }
     }
     put(d, DISPLAY());
 }
 
 /* ---- Map ---- */
 
-enum { MAP_COLUMNS = 20, MAP_ROWS = 15 };
+enum { MAP_COLUMNS = 20, MAP_ROWS = 15, MIDDLE_OF_MAP = 149 };
 
 static void write_map(draft *d)
 {
     put_clear(d);
     put(d, BEGIN(RECTS));
     for (uint32_t n = 0; n < MAP_COLUMNS * MAP_ROWS; n++) {
-        put_colour(d, n);
+        if (n == MIDDLE_OF_MAP && d->is_word_changed)
+            put_other_colour(d);
+        else
+            put_colour(d, n);
         put(d, TAG(1 + n % 255));
         put_rectangle(d, 6 + 40 * (n % MAP_COLUMNS), 6 + 32 * (n / MAP_COLUMNS), 24 + n % 5, 16 + n % 3);
+        if (n == MIDDLE_OF_MAP && d->is_action_inserted) {
+            put(d, BEGIN(RECTS));
+            put_rectangle(d, 300, 300, 40, 21);
+        }
     }
     put(d, DISPLAY());
 }
 
 /* ---- Icons ---- */
 
-enum { ICON_SIDE = 24, ICON_CELLS = 8, ICON_HANDLES = 3, ICON_COLUMNS = 20, ICON_ROWS = 10 };
+enum { ICON_SIDE = 24, ICON_CELLS = 8, ICON_HANDLES = 3, ICON_COLUMNS = 20, ICON_ROWS = 10, MIDDLE_ICON = 100 };
 
 /* Handle 0 is L8, 1 RGB565, 2 ARGB1555, each with its cells one after the other. */
 static void put_icon_handles(draft *d)
@@ -120,6 +143,13 @@ static void put_icon(draft *d, uint32_t x, uint32_t y, uint32_t handle, uint32_t
     put_vertex(d, x, y);
 }
 
+static void put_inserted_icon(draft *d)
+{
+    put(d, BEGIN(BITMAPS));
+    put_icon(d, 300, 300, 0, 0);
+}
+
+/* The icon that is moved goes to the right by a quarter. */
 static void write_icons(draft *d)
 {
     put_clear(d);
@@ -129,7 +159,11 @@ static void write_icons(draft *d)
         if (n % 4 == 0)
             put_colour(d, n);
         put(d, TAG(n + 1));
-        put_icon(d, 8 + 40 * (n % ICON_COLUMNS), 12 + 46 * (n / ICON_COLUMNS), n % ICON_HANDLES, n / 3 % ICON_CELLS);
+        uint32_t further = n == MIDDLE_ICON && d->is_word_changed ? ICON_SIDE / 4 : 0;
+        put_icon(d, 8 + 40 * (n % ICON_COLUMNS) + further, 12 + 46 * (n / ICON_COLUMNS), n % ICON_HANDLES,
+                 n / 3 % ICON_CELLS);
+        if (n == MIDDLE_ICON && d->is_action_inserted)
+            put_inserted_icon(d);
     }
     put(d, DISPLAY());
 }
@@ -165,6 +199,8 @@ static stretches put_stretches(draft *d)
     return s;
 }
 
+enum { MIDDLE_CARD = 43 };
+
 /* One card: a box, a dial cut to its half by a scissor, an icon and lamps, under a translation of its own. */
 static void put_card(draft *d, uint32_t n, stretches s)
 {
@@ -187,7 +223,7 @@ static void put_card(draft *d, uint32_t n, stretches s)
     put(d, SCISSOR_SIZE(2048, 2048));
     put(d, BEGIN(BITMAPS));
     put(d, ALPHA_FUNC(3, 16));
-    put_icon(d, 4, 3, n % ICON_HANDLES, n % ICON_CELLS);
+    put_icon(d, n == MIDDLE_CARD && d->is_word_changed ? 10 : 4, 3, n % ICON_HANDLES, n % ICON_CELLS);
     put(d, CALL(n % 2 == 0 ? s.lamp : s.two_lamps));
     put(d, END());
     put(d, RESTORE_CONTEXT());
@@ -204,8 +240,11 @@ static void write_full(draft *d)
     size_t before = d->count;
     put_card(d, 0, s);
     size_t words_in_a_card = d->count - before;
-    for (uint32_t n = 1; d->count + words_in_a_card < MOST_WORDS; n++)
+    for (uint32_t n = 1; d->count + words_in_a_card < MOST_WORDS; n++) {
         put_card(d, n, s);
+        if (n == MIDDLE_CARD && d->is_action_inserted)
+            put_inserted_icon(d);
+    }
     while (d->count < MOST_WORDS - 1)
         put(d, NOP());
     put(d, DISPLAY());
@@ -223,9 +262,9 @@ static const struct {
     { "full", write_full },
 };
 
-size_t write_scene(const char *name, uint32_t words[MOST_WORDS])
+size_t write_scene(const char *name, const char *edit, uint32_t words[MOST_WORDS])
 {
-    draft d = { words, 0 };
+    draft d = { words, 0, strcmp(edit, "word") == 0, strcmp(edit, "action") == 0 };
     for (size_t n = 0; n < sizeof scenes / sizeof scenes[0]; n++)
         if (strcmp(scenes[n].name, name) == 0)
             scenes[n].write(&d);

@@ -1,4 +1,5 @@
-/* jokulvisp.h - display lists of FT81x and BT88x panels: their words read and written, whole lists checked and painted.
+/* jokulvisp.h - display lists of FT81x and BT88x panels: their words read and written, whole lists checked and painted,
+ * frames repainted after an edit of their list.
  *
  * This file is the library's manual as well as its declarations. The archive to link is libjokulvisp.a; it holds x86-64
  * code only. The header is C11 and C++.
@@ -227,7 +228,7 @@ jv_bits jv_write_word(uint32_t command, uint32_t a, uint32_t b, uint32_t c, uint
  * CALL, RETURN and JUMP also elsewhere, and ends at DISPLAY.
  */
 
-/* What the run of a list came to. */
+/* What the run of a list, or of two, came to. */
 typedef struct { uint32_t number, list, place, count; } jv_answer;
 
 /* Says whether a list draws and, if it does not, which word is at fault and why.
@@ -283,9 +284,9 @@ jv_answer jv_check(const uint8_t *list, size_t list_length, const uint8_t *ram_g
  * is touched there. Pixels follow each other from left to right and rows from top to bottom, without gaps: pixel
  * (x, y) of a frame has its red at 3 * (y * width + x) and its tag at y * width + x.
  *
- * Both calls below paint what the list draws, and nothing of what was in the lent runs before stays: colour and tag
- * start at 0 everywhere, and so do the alpha and the stencil that the list works with but nobody sees. They give the
- * answer of jv_check, and paint only where that is 0:
+ * jv_paint and jv_paint_row paint what the list draws, and nothing of what was in the lent runs before stays: colour
+ * and tag start at 0 everywhere, and so do the alpha and the stencil that the list works with but nobody sees. They
+ * give the answer of jv_check, and paint only where that is 0:
  *
  *   0          the list draws, and every byte of both runs is painted;
  *   1 to 4     as in jv_check, tested in this order; 1 also says that a lent run has another length than it has to
@@ -293,6 +294,8 @@ jv_answer jv_check(const uint8_t *list, size_t list_length, const uint8_t *ram_g
  *   10 to 19   as in jv_check, with place and count.
  *
  * Every number but 0 leaves each byte of both runs as it was lent. The answer's list is 0.
+ *
+ * jv_repaint paints rows in the same way, those alone that an edit of the list concerns, and has an answer of its own.
  *
  * While they paint they keep what the list draws on the stack, of which they take less than 200,000 bytes.
  */
@@ -328,6 +331,74 @@ jv_answer jv_paint(const uint8_t *list, size_t list_length, const uint8_t *ram_g
 jv_answer jv_paint_row(const uint8_t *list, size_t list_length, const uint8_t *ram_g, size_t ram_g_length,
                        uint32_t width, uint32_t height, uint32_t row, uint32_t limit, uint8_t *picture,
                        size_t picture_length, uint8_t *tags, size_t tags_length);
+
+/* Repaints a frame after its list was edited: only the rows that the edit concerns, and says which these are.
+ *
+ * Takes the list before the edit and the one after it, and for both of them RAM_G, frame and limit as jv_paint does;
+ * lends the frame's picture, 3 * width * height bytes, its tags, width * height bytes, and the marks, height bytes, one
+ * for each row, to be written.
+ *
+ * A row is marked exactly when what draws in it differs between the two lists. What draws in a row are the CLEARs,
+ * points, rectangles and bitmaps that cover at least one of its pixels in both frame and scissor, whatever their tests
+ * and masks then let through; a CLEAR without a flag covers none. Those of the one list are held against those of the
+ * other in their order and by the values that they draw with:
+ *
+ *   CLEAR        its flags, scissor, clear values (colour, alpha, stencil, tag) and masks (colour, stencil, tag);
+ *   the others   what it is and where it lies, scissor, colour, alpha, alpha test, stencil test, stencil actions,
+ *                blend, masks, tag. A point lies at its centre with its size and a rectangle between its corners, in
+ *                either order, with its line width, in sixteenths of a pixel and after the translation; a bitmap at
+ *                its top left pixel with its drawn size, and it has the place in RAM_G where its cell starts, format,
+ *                stride and layout height.
+ *
+ * So one changed word marks the rows of everything that draws with what it sets, however far behind it that stands. A
+ * word that nothing draws with marks no row: a NOP, a setting that was so already, a handle of another number with the
+ * same cell. But a value that differs marks its rows even where the pixels come out equal, like the reference of a test
+ * that always passes, or two shapes side by side drawn in the other order.
+ *
+ * Gives in number
+ *   0          both lists draw. Every byte of marks is written, 1 for a row that is marked and 0 for one that is not.
+ *              The picture and tags of a marked row become those that jv_paint gives it for the new list; an unmarked
+ *              row keeps each byte as it was lent. In an unmarked row both lists paint the same: a frame that held the
+ *              old list's picture and tags holds the new list's afterwards;
+ *   1 to 4     as in jv_paint, tested in this order, 1 also for marks of another length than height bytes, and 2 first
+ *              of the old list, then of the new; nothing was run;
+ *   10 to 19   as in jv_check: the old list does not draw, or it does and the new list does not.
+ *
+ * Every number but 0 leaves each byte of picture, tags and marks as it was lent.
+ *
+ * Gives in list, for 2 and 10 to 19, which list it is about: 1 the old one, 2 the new one. Otherwise it is 0.
+ *
+ * Gives in place, for 10 to 19, what jv_check gives for that list, and otherwise 0.
+ *
+ * Gives in count, for 0, how many rows are marked; for 10 to 19 the words that the list at fault has fetched; otherwise
+ * 0.
+ *
+ * The lists may lie in the same bytes. RAM_G is one for both: an edit of its bytes is no edit of a list and marks
+ * nothing, so after one the frame is painted anew.
+ *
+ *   static const uint8_t red_pixel[] = {
+ *       0x00, 0x00, 0xFF, 0x04,      COLOR_RGB    255, 0, 0
+ *       0x00, 0x00, 0x00, 0x0D,      POINT_SIZE   0
+ *       0x02, 0x00, 0x00, 0x1F,      BEGIN        POINTS
+ *       0x00, 0x10, 0x20, 0x80,      VERTEX2II    1, 1, 0, 0
+ *       0x00, 0x00, 0x00, 0x00,      DISPLAY
+ *   };
+ *   static const uint8_t blue_pixel[] = { 0xFF, 0x00, 0x00, 0x04, and so on as above };
+ *   static uint8_t picture[3 * 4 * 4], tags[4 * 4], marks[4];
+ *   jv_repaint(red_pixel, 20, blue_pixel, 20, NULL, 0, 4, 4, 65536, picture, sizeof picture, tags, sizeof tags, marks,
+ *              sizeof marks)
+ *       gives { 0, 0, 0, 1 }; marks are 0, 1, 0, 0, row 1 is black, blue, black, black, the others are as they were
+ *   jv_repaint(red_pixel, 20, blue_pixel, 16, NULL, 0, 4, 4, 65536, picture, sizeof picture, tags, sizeof tags, marks,
+ *              sizeof marks)
+ *       gives { 10, 2, 16, 4 }, for the new list's DISPLAY is missing
+ *   jv_repaint(red_pixel, 18, blue_pixel, 20, NULL, 0, 4, 4, 65536, picture, sizeof picture, tags, sizeof tags, marks,
+ *              sizeof marks)
+ *       gives { 2, 1, 0, 0 }, for the old list does not end with a whole word
+ */
+jv_answer jv_repaint(const uint8_t *old_list, size_t old_list_length, const uint8_t *new_list, size_t new_list_length,
+                     const uint8_t *ram_g, size_t ram_g_length, uint32_t width, uint32_t height, uint32_t limit,
+                     uint8_t *picture, size_t picture_length, uint8_t *tags, size_t tags_length, uint8_t *marks,
+                     size_t marks_length);
 
 #ifdef __cplusplus
 }

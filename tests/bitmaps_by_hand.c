@@ -9,20 +9,6 @@
 
 enum { ONE = 1, ZERO = 0, GREATER = 3, INCR = 3, KEEP = 1 };
 
-/* Handle 0 at the start of RAM_G. */
-#define BITMAP(format, stride, layout_height, width, height)                                                           \
-    BITMAP_SOURCE(0), BITMAP_LAYOUT(format, stride, layout_height), BITMAP_SIZE(0, 0, 0, width, height), BEGIN(BITMAPS)
-
-/* Greys by letters, and a texel of which only the tag shows. */
-#define GREYS                                                                                                          \
-    WHERE({ 'a', { 10, 10, 10, 255 } }, { 'b', { 20, 20, 20, 255 } }, { 'c', { 30, 30, 30, 255 } },                    \
-          { 'd', { 40, 40, 40, 255 } }, { 'e', { 50, 50, 50, 255 } }, { 'f', { 60, 60, 60, 255 } },                    \
-          { '0', { 0, 0, 0, 255 } })
-
-/* The greys a b and c d. */
-#define OVER_ABCD OVER_RAM_G(10, 20, 30, 40)
-#define TWO_BY_TWO BITMAP(L8, 2, 2, 2, 2)
-
 static const hand_picture places[] = {
     { CASE("VERTEX2II in pixels"), LIST(TWO_BY_TWO, VERTEX2II(1, 1, 0, 0), DISPLAY()),
       SHOWS("....",

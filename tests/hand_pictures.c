@@ -29,9 +29,15 @@ static shown_pixel meaning_of(const hand_picture *h, char sign)
     return found->pixel;
 }
 
+size_t width_of(const hand_picture *h)
+{
+    return strlen(h->rows[0]);
+}
+
 static shown_pixel wanted_pixel(const hand_picture *h, size_t x, size_t y)
 {
-    return meaning_of(h, h->rows[y][x]);
+    char sign = h->rows[y][x];
+    return sign == AS_LENT ? lent_pixel_at(y * width_of(h) + x) : meaning_of(h, sign);
 }
 
 static char sign_of(const legend_entry *legend, size_t count, shown_pixel p)
@@ -42,30 +48,24 @@ static char sign_of(const legend_entry *legend, size_t count, shown_pixel p)
     return '?';
 }
 
-static char sign_of_pixel(const hand_picture *h, shown_pixel p)
+static char sign_of_pixel(const hand_picture *h, shown_pixel p, shown_pixel lent)
 {
     char sign = sign_of(h->legend, h->legend_count, p);
-    return sign != '?' ? sign : sign_of(always_known, LENGTH(always_known), p);
+    if (sign == '?')
+        sign = sign_of(always_known, LENGTH(always_known), p);
+    return sign == '?' && are_equal_pixels(p, lent) ? AS_LENT : sign;
 }
 
 /* ---- What came ---- */
 
-/* Rows of a picture as they came, from row `first` on. */
-typedef struct {
-    const char *call;
-    jv_answer answer;
-    const lent_runs *runs;
-    size_t first, count;
-} came_rows;
-
-static size_t width_of(const hand_picture *h)
+static size_t place_of(const hand_picture *h, const came_rows *came, size_t x, size_t y)
 {
-    return strlen(h->rows[0]);
+    return (y - came->first) * width_of(h) + x;
 }
 
 static shown_pixel came_pixel(const hand_picture *h, const came_rows *came, size_t x, size_t y)
 {
-    return pixel_at(came->runs->picture, came->runs->tags, (y - came->first) * width_of(h) + x);
+    return pixel_at(came->runs->picture, came->runs->tags, place_of(h, came, x, y));
 }
 
 static void print_first_difference(const hand_picture *h, const came_rows *came)
@@ -82,18 +82,19 @@ static void print_first_difference(const hand_picture *h, const came_rows *came)
         }
 }
 
-static void print_rows(const hand_picture *h, const came_rows *came)
+void print_rows(const hand_picture *h, const came_rows *came)
 {
-    puts("    rows as they came, and as wanted ('?' is no sign of this picture):");
+    print_first_difference(h, came);
+    puts("    rows as they came, and as wanted ('?' is no sign of this picture, '~' was not written):");
     for (size_t y = came->first; y < came->first + came->count; y++) {
         printf("      ");
         for (size_t x = 0; x < width_of(h); x++)
-            putchar(sign_of_pixel(h, came_pixel(h, came, x, y)));
+            putchar(sign_of_pixel(h, came_pixel(h, came, x, y), lent_pixel_at(place_of(h, came, x, y))));
         printf("   %s\n", h->rows[y]);
     }
 }
 
-static bool are_rows_as_wanted(const hand_picture *h, const came_rows *came)
+bool are_rows_as_wanted(const hand_picture *h, const came_rows *came)
 {
     for (size_t y = came->first; y < came->first + came->count; y++)
         for (size_t x = 0; x < width_of(h); x++)
@@ -118,7 +119,6 @@ static void check_rows(const char *file, const hand_picture *h, const run_reques
     }
     if (!is_kept_inside(came->runs))
         puts("    bytes beside the lent runs were written");
-    print_first_difference(h, came);
     print_rows(h, came);
 }
 
@@ -143,7 +143,7 @@ static void check_row(const char *file, const hand_picture *h, const painter *p,
     take_back(&runs);
 }
 
-static bool are_equal_bytes(const uint8_t *a, const uint8_t *b, size_t length)
+bool are_equal_bytes(const uint8_t *a, const uint8_t *b, size_t length)
 {
     return length == 0 || memcmp(a, b, length) == 0;
 }

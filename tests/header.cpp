@@ -2,6 +2,7 @@
 #include <cstddef>
 #include <cstdint>
 #include <cstdio>
+#include <cstring>
 #include <type_traits>
 
 #include "jokulvisp.h"
@@ -44,6 +45,28 @@ static bool do_paint_calls_answer()
            is_answer(jv_paint_row(clear_screen, 12, nullptr, 0, 2, 1, 1, 64, row, 6, tags, 2), JV_BAD_FRAME, 0, 0);
 }
 
+// The manual's example: a pixel whose colour changes, on 2 by 2 pixels.
+static bool does_repaint_call_answer()
+{
+    const std::uint8_t red_pixel[] = { 0x00, 0x00, 0xFF, 0x04, 0x00, 0x00, 0x00, 0x0D, 0x02, 0x00,
+                                       0x00, 0x1F, 0x00, 0x10, 0x20, 0x80, 0x00, 0x00, 0x00, 0x00 };
+    std::uint8_t blue_pixel[sizeof red_pixel];
+    std::memcpy(blue_pixel, red_pixel, sizeof red_pixel);
+    blue_pixel[0] = 0xFF;
+    blue_pixel[2] = 0x00;
+    std::uint8_t picture[12] = { 9, 9, 9, 9, 9, 9, 9, 9, 9, 9, 9, 9 }, tags[4] = { 9, 9, 9, 9 }, marks[2] = { 9, 9 };
+    const std::uint8_t wanted[12] = { 9, 9, 9, 9, 9, 9, 0, 0, 0, 0, 0, 255 };
+    const jv_answer came =
+        jv_repaint(red_pixel, 20, blue_pixel, 20, nullptr, 0, 2, 2, 64, picture, 12, tags, 4, marks, 2);
+    const bool is_repainted = is_answer(came, JV_DONE, 0, 1) && std::memcmp(picture, wanted, 12) == 0 && tags[1] == 9 &&
+                              tags[2] == 0 && tags[3] == 255 && marks[0] == 0 && marks[1] == 1;
+    const jv_answer refused =
+        jv_repaint(red_pixel, 20, blue_pixel, 16, nullptr, 0, 2, 2, 64, picture, 12, tags, 4, marks, 2);
+    const bool is_refused = refused.number == JV_PAST_END && refused.list == 2 && refused.place == 16 &&
+                            refused.count == 4 && std::memcmp(picture, wanted, 12) == 0;
+    return is_repainted && is_refused;
+}
+
 int main()
 {
     const jv_word read = jv_read_word(0x9B86EFD4);
@@ -59,9 +82,10 @@ int main()
                         is_answer(jv_check(clear_screen, 12, nullptr, 0, 801, 272, 65536), JV_BAD_FRAME, 0, 0);
 
     const bool paints = do_paint_calls_answer();
+    const bool repaints = does_repaint_call_answer();
 
-    std::printf("from C++: reading %s, writing %s, refusing %s, checking %s, painting %s\n", reads ? "holds" : "FAILS",
-                writes ? "holds" : "FAILS", refuses ? "holds" : "FAILS", checks ? "holds" : "FAILS",
-                paints ? "holds" : "FAILS");
-    return reads && writes && refuses && checks && paints ? 0 : 1;
+    std::printf("from C++: reading %s, writing %s, refusing %s, checking %s, painting %s, repainting %s\n",
+                reads ? "holds" : "FAILS", writes ? "holds" : "FAILS", refuses ? "holds" : "FAILS",
+                checks ? "holds" : "FAILS", paints ? "holds" : "FAILS", repaints ? "holds" : "FAILS");
+    return reads && writes && refuses && checks && paints && repaints ? 0 : 1;
 }

@@ -77,7 +77,7 @@ void print_answer(const char *before, jv_answer a)
            a.list, a.place, a.count);
 }
 
-static uint32_t word_at(const uint8_t *byte)
+uint32_t word_at(const uint8_t *byte)
 {
     return (uint32_t)byte[3] << 24 | (uint32_t)byte[2] << 16 | (uint32_t)byte[1] << 8 | byte[0];
 }

@@ -34,7 +34,8 @@ void *allocated(size_t length);
 /* A copy of exactly this length, so that a sanitizer sees a byte read past it; NULL for 0 bytes. */
 uint8_t *copied(const uint8_t *bytes, size_t length);
 
-/* A list's words as its bytes. */
+/* A list's words as its bytes, and the word whose bytes begin here. */
 void put_words(uint8_t *bytes, const uint32_t *words, size_t count);
+uint32_t word_at(const uint8_t *byte);
 
 #endif

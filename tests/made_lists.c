@@ -315,6 +315,20 @@ static uint32_t draw_vertex2ii(const draft *d, uint32_t handle, uint32_t cell)
     return VERTEX2II(any >> 9, any, handle, cell);
 }
 
+uint32_t draw_word_like(uint32_t word, frame_size frame)
+{
+    static draft d;
+    uint32_t command = command_of(word);
+    d.aim = frame;
+    if (command == JV_CALL || command == JV_JUMP || find_entry(command) == NULL)
+        return word;
+    if (command == JV_VERTEX2F)
+        return draw_vertex2f(&d);
+    if (command == JV_VERTEX2II)
+        return draw_vertex2ii(&d, word >> 7, word);
+    return does_aim(&d) ? draw_aimed_word_of(&d, command) : draw_word_of(command);
+}
+
 /* ---- Bitmaps ---- */
 
 static bool is_ready(const draft *d, uint32_t handle)
@@ -621,7 +635,7 @@ static void write_draft(draft *d, size_t ram_g_length, frame_size aim)
     set_call_targets(d);
 }
 
-static uint32_t draw_fault(const draft *d, size_t at)
+uint32_t draw_faulty_word(size_t at, size_t count)
 {
     static const uint32_t strays[] = { JV_RETURN, JV_END, JV_VERTEX2F, JV_VERTEX2II };
     switch (draw_below(12)) {
@@ -634,9 +648,9 @@ static uint32_t draw_fault(const draft *d, size_t at)
     case 3:
         return draw_once_in(2) ? CALL(4 * at) : CALL(draw());
     case 4:
-        return JUMP(draw_once_in(2) ? draw_below(4 * (uint32_t)d->count) : draw());
+        return JUMP(draw_once_in(2) ? draw_below(4 * (uint32_t)count) : draw());
     case 5:
-        return JUMP(4 * d->count);
+        return JUMP(4 * count);
     case 6:
         return RETURN();
     case 7:
@@ -663,7 +677,7 @@ static void put_fault(draft *d)
     if (draw_once_in(12))
         put_call_chain(d, at);
     else
-        d->words[at] = draw_fault(d, at);
+        d->words[at] = draw_faulty_word(at, d->count);
 }
 
 static void spoil_word(draft *d)
@@ -772,7 +786,7 @@ static uint32_t draw_limit(const run_request *r)
     }
 }
 
-static size_t draw_bad_length(size_t length)
+size_t draw_bad_length(size_t length)
 {
     switch (draw_below(4)) {
     case 0:

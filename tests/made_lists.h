@@ -31,6 +31,16 @@ void make_list(made_list *made, list_kind kind);
 /* The same for this frame, so that most of what the list draws lies there or beside the edges, and is seen. */
 void make_list_for_frame(made_list *made, list_kind kind, frame_size frame);
 
+/* Another word of the same command for a list that aims at this frame, with the same handle and cell if it names them.
+   CALL, JUMP and what is no command stay as they are. */
+uint32_t draw_word_like(uint32_t word, frame_size frame);
+
+/* A word that is most likely at fault at this place of a list of so many words. */
+uint32_t draw_faulty_word(size_t at, size_t count);
+
+/* A length that no list may have, for one that has `length`. */
+size_t draw_bad_length(size_t length);
+
 /* Puts NOP for every word without which the list still tells what `is_still_telling` asks, so that a person sees the
    words that matter. */
 typedef bool is_telling(const void *asker, const run_request *request);

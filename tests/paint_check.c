@@ -61,20 +61,32 @@ static bool has_pattern(const uint8_t *block, size_t first, size_t past_last)
     return true;
 }
 
-lent_runs lend(size_t picture_length, size_t tags_length)
+lent_runs lend_with_marks(size_t picture_length, size_t tags_length, size_t marks_length)
 {
-    lent_runs lent = { .picture_length = picture_length, .tags_length = tags_length };
-    lent.picture_block = patterned_block(picture_length);
-    lent.tags_block = patterned_block(tags_length);
+    lent_runs lent = {
+        .picture_length = picture_length,
+        .tags_length = tags_length,
+        .marks_length = marks_length,
+        .picture_block = patterned_block(picture_length),
+        .tags_block = patterned_block(tags_length),
+        .marks_block = patterned_block(marks_length),
+    };
     lent.picture = lent.picture_block + AROUND;
     lent.tags = lent.tags_block + AROUND;
+    lent.marks = lent.marks_block + AROUND;
     return lent;
+}
+
+lent_runs lend(size_t picture_length, size_t tags_length)
+{
+    return lend_with_marks(picture_length, tags_length, 0);
 }
 
 void take_back(lent_runs *lent)
 {
     free(lent->picture_block);
     free(lent->tags_block);
+    free(lent->marks_block);
     *lent = (lent_runs){ .picture = NULL };
 }
 
@@ -86,13 +98,14 @@ static bool is_kept_around(const uint8_t *block, size_t length)
 bool is_kept_inside(const lent_runs *lent)
 {
     return is_kept_around(lent->picture_block, lent->picture_length) &&
-           is_kept_around(lent->tags_block, lent->tags_length);
+           is_kept_around(lent->tags_block, lent->tags_length) && is_kept_around(lent->marks_block, lent->marks_length);
 }
 
 bool is_as_lent(const lent_runs *lent)
 {
     return has_pattern(lent->picture_block, 0, lent->picture_length + 2 * AROUND) &&
-           has_pattern(lent->tags_block, 0, lent->tags_length + 2 * AROUND);
+           has_pattern(lent->tags_block, 0, lent->tags_length + 2 * AROUND) &&
+           has_pattern(lent->marks_block, 0, lent->marks_length + 2 * AROUND);
 }
 
 paint_request lending(const run_request *run, const uint8_t *ram_g, const lent_runs *lent)
@@ -105,6 +118,13 @@ paint_request lending(const run_request *run, const uint8_t *ram_g, const lent_r
 shown_pixel pixel_at(const uint8_t *picture, const uint8_t *tags, size_t at)
 {
     return (shown_pixel){ picture[3 * at], picture[3 * at + 1], picture[3 * at + 2], tags[at] };
+}
+
+shown_pixel lent_pixel_at(size_t at)
+{
+    size_t byte = AROUND + 3 * at;
+    return (shown_pixel){ pattern_byte(byte), pattern_byte(byte + 1), pattern_byte(byte + 2),
+                          pattern_byte(AROUND + at) };
 }
 
 bool are_equal_pixels(shown_pixel a, shown_pixel b)

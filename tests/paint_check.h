@@ -19,15 +19,16 @@ typedef struct {
 
 extern const painter library, second_program;
 
-/* A picture and tags that are lent to be painted. */
+/* A picture and tags that are lent to be painted, and marks for who asks for them. */
 typedef struct {
-    uint8_t *picture, *tags;
-    size_t picture_length, tags_length;
-    uint8_t *picture_block, *tags_block; /* with the bytes around them */
+    uint8_t *picture, *tags, *marks;
+    size_t picture_length, tags_length, marks_length;
+    uint8_t *picture_block, *tags_block, *marks_block; /* with the bytes around them */
 } lent_runs;
 
 /* Gives runs of these lengths full of the pattern. */
 lent_runs lend(size_t picture_length, size_t tags_length);
+lent_runs lend_with_marks(size_t picture_length, size_t tags_length, size_t marks_length);
 
 void take_back(lent_runs *lent);
 
@@ -44,6 +45,10 @@ typedef struct {
 } shown_pixel;
 
 shown_pixel pixel_at(const uint8_t *picture, const uint8_t *tags, size_t at);
+
+/* The pixel there of runs that are full of the pattern. */
+shown_pixel lent_pixel_at(size_t at);
+
 bool are_equal_pixels(shown_pixel a, shown_pixel b);
 void print_pixel(const char *before, shown_pixel p);
 

@@ -95,7 +95,8 @@ static int32_t squared_distance(int32_t dx, int32_t dy)
     return dx * dx + dy * dy;
 }
 
-static bool is_in_point(const point_shape *p, int32_t x, int32_t y)
+/* This and is_in_rectangle are asked of every pixel: `inline`, lest painting cost more because others ask, too. */
+static inline bool is_in_point(const point_shape *p, int32_t x, int32_t y)
 {
     return squared_distance(16 * x - p->centre.x, 16 * y - p->centre.y) <= p->size * p->size;
 }
@@ -106,7 +107,7 @@ static int32_t distance_to(int32_t low, int32_t high, int32_t number)
     return number < low ? low - number : number > high ? number - high : 0;
 }
 
-static bool is_in_rectangle(const rectangle_shape *r, int32_t x, int32_t y)
+static inline bool is_in_rectangle(const rectangle_shape *r, int32_t x, int32_t y)
 {
     return squared_distance(distance_to(r->low.x, r->high.x, 16 * x), distance_to(r->low.y, r->high.y, 16 * y)) <=
            r->width * r->width;
@@ -380,7 +381,8 @@ static run_answer paint_if_drawable(const paint_request *r, uint32_t first, uint
     if (ran.number == BAD_FRAME)
         return ran;
     size_t pixels = (size_t)r->run.width * count;
-    if (first >= r->run.height || r->picture_length != 3 * pixels || r->tags_length != pixels)
+    bool has_rows = first < r->run.height && count <= r->run.height - first;
+    if (!has_rows || r->picture_length != 3 * pixels || r->tags_length != pixels)
         return (run_answer){ BAD_FRAME, 0, 0 };
     return ran.number == 0 ? paint_rows(r, first, count) : ran;
 }
@@ -395,7 +397,12 @@ run_answer paint_frame_row(const paint_request *request, uint32_t row)
     return paint_if_drawable(request, row, 1);
 }
 
-/* ---- How much there is to paint ---- */
+run_answer paint_frame_rows(const paint_request *request, uint32_t first, uint32_t count)
+{
+    return paint_if_drawable(request, first, count);
+}
+
+/* ---- What is reached, and how much there is to paint ---- */
 
 typedef struct {
     pixel_box frame;
@@ -414,6 +421,17 @@ static bool is_covered(const run_action *a, int32_t x, int32_t y)
     default:
         return a->flags != 0;
     }
+}
+
+bool does_reach_row(const run_action *a, uint32_t width, uint32_t row)
+{
+    int32_t y = (int32_t)row;
+    pixel_box box = reached_box(a, (pixel_box){ 0, y, (int32_t)width, y + 1 });
+    bool has_row = box.top < box.bottom;
+    for (int32_t x = box.left; has_row && x < box.right; x++)
+        if (is_covered(a, x, y))
+            return true;
+    return false;
 }
 
 static void count_action(void *taker, const run_action *a)

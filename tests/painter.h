@@ -4,6 +4,7 @@
 #ifndef PAINTER_H
 #define PAINTER_H
 
+#include <stdbool.h>
 #include <stddef.h>
 #include <stdint.h>
 
@@ -26,6 +27,12 @@ run_answer paint_frame(const paint_request *request);
 /* The same for one row of the frame, whose runs are lent (3 * width and width bytes). Number 1 also says that the frame
    has no such row. */
 run_answer paint_frame_row(const paint_request *request, uint32_t row);
+
+/* The same for so many rows from `first` on. */
+run_answer paint_frame_rows(const paint_request *request, uint32_t first, uint32_t count);
+
+/* 'An action reaches a row exactly if it covers such a pixel there', one in both frame and scissor. */
+bool does_reach_row(const run_action *action, uint32_t width, uint32_t row);
 
 /* How many pixels the list's actions cover within frame and scissor, each action counted by itself. */
 uint64_t count_covered_pixels(const run_request *request);

@@ -6,14 +6,11 @@
 #include <stdio.h>
 
 #include "check.h"
+#include "faulty_lists.h"
 #include "hand_pictures.h"
 #include "list_check.h"
 
 enum { WIDTH = 4, HEIGHT = 3, NUMBERS = 20 };
-
-/* Words that paint everything, before whatever is at fault. */
-#define PAINT_ALL CLEAR_COLOR_RGB(255, 255, 255), CLEAR(1, 1, 1), BEGIN_EVERYWHERE, EVERYWHERE
-enum { PAINT_ALL_WORDS = 5 };
 
 static uint8_t ram_g[MOST_RAM_G_BYTES + 1];
 
@@ -43,7 +40,7 @@ typedef struct {
     jv_answer wanted;
 } refused_request;
 
-static void check_refusal(const refused_request *q)
+static void check_refusal_in(const char *file, const refused_request *q)
 {
     const painter *const painters[] = { &library, &second_program };
     for (size_t n = 0; n < LENGTH(painters); n++) {
@@ -51,27 +48,32 @@ static void check_refusal(const refused_request *q)
         paint_request request = lending(&q->run, ram_g, &lent);
         const char *call = q->is_row ? painters[n]->row_call : painters[n]->frame_call;
         jv_answer came = q->is_row ? painters[n]->paint_row(&request, q->row) : painters[n]->paint(&request);
-        if (is_to_be_told(__FILE__, q->line, are_equal_answers(came, q->wanted) && is_as_lent(&lent)))
+        if (is_to_be_told(file, q->line, are_equal_answers(came, q->wanted) && is_as_lent(&lent)))
             print_refusal(q->name, call, &request, &lent, came, q->wanted);
         take_back(&lent);
     }
     met[q->wanted.number]++;
 }
 
+static void check_refusal(const refused_request *q)
+{
+    check_refusal_in(__FILE__, q);
+}
+
 /* By the frame, and by its first and its last row, with runs of the right lengths. */
-static void check_refused_run(int line, const char *name, const run_request *run, run_answer wanted)
+static void check_refused_run(const char *file, int line, const char *name, const run_request *run, run_answer wanted)
 {
     size_t width = run->width <= 800 ? run->width : 1, height = run->height <= 600 ? run->height : 1;
     refused_request q = { .line = line, .name = name, .run = *run, .wanted = as_answer(wanted) };
     q.picture_length = 3 * width * height;
     q.tags_length = width * height;
-    check_refusal(&q);
+    check_refusal_in(file, &q);
     q.is_row = true;
     q.picture_length = 3 * width;
     q.tags_length = width;
-    check_refusal(&q);
+    check_refusal_in(file, &q);
     q.row = run->height > 0 ? run->height - 1 : 0;
-    check_refusal(&q);
+    check_refusal_in(file, &q);
 }
 
 /* ---- Numbers 1 to 4 ---- */
@@ -125,7 +127,7 @@ static void check_measures(void)
     begin_part("refused by measure");
     for (const measure *m = measures; m < measures + LENGTH(measures); m++) {
         run_request run = { long_list(), m->list_length, m->ram_g_length, m->width, m->height, m->limit };
-        check_refused_run(m->line, m->name, &run, (run_answer){ m->number, 0, 0 });
+        check_refused_run(__FILE__, m->line, m->name, &run, (run_answer){ m->number, 0, 0 });
     }
 }
 
@@ -229,62 +231,14 @@ static void check_vast_lengths(void)
 
 /* ---- Numbers 10 to 19 ---- */
 
-typedef struct {
-    int line;
-    const char *name;
-    const uint32_t *words;
-    size_t count;
-    uint32_t limit;
-    size_t ram_g_length;
-    run_answer answer;
-} faulty_list;
-
-/* Every list paints first; the word at fault is the sixth, at byte 20, unless the case leads elsewhere. */
-#define PAINT_AND(...) LIST(PAINT_ALL, __VA_ARGS__)
-enum { AT = 4 * PAINT_ALL_WORDS, AFTER = PAINT_ALL_WORDS + 1 };
-
-static const faulty_list faulty_lists[] = {
-    { CASE("no DISPLAY"), PAINT_AND(NOP()), 99, 0, { 10, AT + 4, AFTER } },
-    { CASE("a jump past the end"), PAINT_AND(JUMP(65532)), 99, 0, { 10, 65532, AFTER } },
-    { CASE("top byte 2E"), PAINT_AND(0x2E000000, DISPLAY()), 99, 0, { 11, AT, AFTER } },
-    { CASE("a coprocessor's word"), PAINT_AND(0xFFFFFF00, DISPLAY()), 99, 0, { 11, AT, AFTER } },
-    { CASE("document 01's scissor 2049 wide"), PAINT_AND(0x1C801800, DISPLAY()), 99, 0, { 12, AT, AFTER } },
-    { CASE("stencil function 8"), PAINT_AND(STENCIL_FUNC(8, 0, 0), DISPLAY()), 99, 0, { 12, AT, AFTER } },
-    { CASE("stencil action 6"), PAINT_AND(STENCIL_OP(6, 0), DISPLAY()), 99, 0, { 12, AT, AFTER } },
-    { CASE("blend factor 6"), PAINT_AND(BLEND_FUNC(0, 6), DISPLAY()), 99, 0, { 12, AT, AFTER } },
-    { CASE("primitive 0"), PAINT_AND(BEGIN(0), DISPLAY()), 99, 0, { 12, AT, AFTER } },
-    { CASE("format 8"), PAINT_AND(BITMAP_LAYOUT(8, 1, 1), DISPLAY()), 99, 0, { 12, AT, AFTER } },
-    { CASE("frac 5"), PAINT_AND(VERTEX_FORMAT(5), DISPLAY()), 99, 0, { 12, AT, AFTER } },
-    { CASE("LINES are not drawn yet"), PAINT_AND(BEGIN(LINES), DISPLAY()), 99, 0, { 13, AT, AFTER } },
-    { CASE("nor is L4"), PAINT_AND(BITMAP_LAYOUT(2, 1, 1), DISPLAY()), 99, 0, { 13, AT, AFTER } },
-    { CASE("nor BILINEAR"), PAINT_AND(BITMAP_SIZE(1, 0, 0, 1, 1), DISPLAY()), 99, 0, { 13, AT, AFTER } },
-    { CASE("nor REPEAT"), PAINT_AND(BITMAP_SIZE(0, 0, 1, 1, 1), DISPLAY()), 99, 0, { 13, AT, AFTER } },
-    { CASE("nor a transform"), PAINT_AND(BITMAP_TRANSFORM_A(256), DISPLAY()), 99, 0, { 13, AT, AFTER } },
-    { CASE("nor a palette"), PAINT_AND(PALETTE_SOURCE(0), DISPLAY()), 99, 0, { 13, AT, AFTER } },
-    { CASE("nor MACRO"), PAINT_AND(MACRO(0), DISPLAY()), 99, 0, { 13, AT, AFTER } },
-    { CASE("a fifth call"), PAINT_AND(CALL(AT)), 99, 0, { 14, AT, AFTER + 4 } },
-    { CASE("a return without a call"), PAINT_AND(RETURN()), 99, 0, { 15, AT, AFTER } },
-    { CASE("a call that splits a word"), PAINT_AND(CALL(2), DISPLAY()), 99, 0, { 16, AT, AFTER } },
-    { CASE("a jump that splits a word"), PAINT_AND(JUMP(1), DISPLAY()), 99, 0, { 16, AT, AFTER } },
-    { CASE("a vertex after END"), PAINT_AND(END(), VERTEX2F(0, 0), DISPLAY()), 99, 0, { 17, AT + 4, AFTER + 1 } },
-    { CASE("a bitmap that is not set up"), PAINT_AND(BEGIN(BITMAPS), VERTEX2F(0, 0), DISPLAY()), 99, 64,
-      { 18, AT + 4, AFTER + 1 } },
-    { CASE("a bitmap off screen and past RAM_G"),
-      PAINT_AND(BITMAP_SOURCE(0), BITMAP_LAYOUT(L8, 8, 8), BITMAP_SIZE(0, 0, 0, 8, 8), BEGIN(BITMAPS),
-                VERTEX2F(-9999, -9999), DISPLAY()),
-      99, 63, { 18, AT + 16, AFTER + 4 } },
-    { CASE("the limit reached"), PAINT_AND(JUMP(0)), 60, 0, { 19, 0, 60 } },
-    { CASE("the limit reached one word before DISPLAY"), PAINT_AND(NOP(), DISPLAY()), 6, 0, { 19, AT + 4, 6 } },
-};
-
 static void check_faulty_lists(void)
 {
     static uint8_t list[MOST_LIST_BYTES];
     begin_part("refused by a fault");
-    for (const faulty_list *f = faulty_lists; f < faulty_lists + LENGTH(faulty_lists); f++) {
+    for (const faulty_list *f = faulty_lists; f < faulty_lists + faulty_list_count; f++) {
         put_words(list, f->words, f->count);
         run_request run = { list, 4 * f->count, f->ram_g_length, WIDTH, HEIGHT, f->limit };
-        check_refused_run(f->line, f->name, &run, f->answer);
+        check_refused_run(faulty_lists_file, f->line, f->name, &run, f->answer);
     }
 }
 
