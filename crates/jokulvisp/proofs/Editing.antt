@@ -119,66 +119,32 @@ module _ {old new memory : List ℕ} {width height limit : ℕ} {picture tags ma
         lent-lends width height (length picture) (length tags) (and-left runs (eqb (length marks) height) lent)
 
 -- THE CLAIM
-carried-over :
-    (old new memory : List ℕ) (width height limit : ℕ)
-    (lentPicture lentTags picture tags : List ℕ) (oldAnswer : JvAnswer) →
-    PaintAnswer old memory width height limit lentPicture lentTags oldAnswer picture tags → oldAnswer .number ≡ 0 →
-    (otherPicture otherTags newPicture newTags : List ℕ) (newAnswer : JvAnswer) →
-    PaintAnswer new memory width height limit otherPicture otherTags newAnswer newPicture newTags → newAnswer .number ≡ 0 →
-    (marks : List ℕ) (answer : JvAnswer) (picture′ tags′ marks′ : List ℕ) → length marks ≡ height →
-    RepaintAnswer old new memory width height limit picture tags marks answer picture′ tags′ marks′ →
-    (answer .number ≡ 0) × ((picture′ ≡ newPicture) × (tags′ ≡ newTags))
-carried-over old new memory width height limit lentPicture lentTags picture tags oldAnswer o zo otherPicture otherTags newPicture newTags newAnswer n zn marks answer picture′ tags′ marks′ long x =
-    carried x
-    (framed old memory width height limit lentPicture lentTags oldAnswer picture tags o zo)
-    (framed new memory width height limit otherPicture otherTags newAnswer newPicture newTags n zn)
-    long
-
-itself :
-    (list memory : List ℕ) (width height limit : ℕ) (picture tags marks : List ℕ) (answer : JvAnswer) (picture′ tags′ marks′ : List ℕ) →
-    RepaintAnswer list list memory width height limit picture tags marks answer picture′ tags′ marks′ → answer .number ≡ 0 →
-    (answer .count ≡ 0) × ((marks′ ≡ replicate height 0) × ((picture′ ≡ picture) × (tags′ ≡ tags)))
-itself list memory width height limit picture tags marks answer picture′ tags′ marks′ x z =
-    let left = x .done z in
-    let long = repaint-long x z in
-    let none : marks′ ≡ replicate height 0 = marks-none (left .marks) in
-    let zeros : (y : ℕ) → y < height → getD marks′ y 0 ≡ 0 = λ y l. ap (λ (m : List ℕ). getD m y 0) none ∙ getD-replicate height y 0 0 l in (
-      repaint-count x z ∙ marked-none marks′ height zeros,
-      (none, (left .colours ∙ mended-itself (left .marks) _ (3 * width) picture (long .0), left .tagBytes ∙ mended-itself (left .marks) _ width tags (long .1))),
-    )
-
-frame-free :
-    (old new memory : List ℕ) (width height limit : ℕ)
-    (picture tags marks : List ℕ) (answer : JvAnswer) (picture′ tags′ marks′ : List ℕ) →
-    Lent width height picture tags → length marks ≡ height →
-    RepaintAnswer old new memory width height limit picture tags marks answer picture′ tags′ marks′ →
-    (otherPicture otherTags otherMarks : List ℕ) (otherAnswer : JvAnswer) (otherPicture′ otherTags′ otherMarks′ : List ℕ) →
-    Lent width height otherPicture otherTags → length otherMarks ≡ height →
-    RepaintAnswer old new memory width height limit otherPicture otherTags otherMarks otherAnswer otherPicture′ otherTags′ otherMarks′ →
-    (answer ≡ otherAnswer) × (answer .number ≡ 0 → marks′ ≡ otherMarks′)
-frame-free old new memory width height limit picture tags marks answer picture′ tags′ marks′ l m x otherPicture otherTags otherMarks otherAnswer otherPicture′ otherTags′ otherMarks′ k n =
-    answer-settled (lent-for width height picture tags marks l m ∙ sym (lent-for width height otherPicture otherTags otherMarks k n)) x
-
-nothing-missed :
-    (old new memory : List ℕ) (width height limit y : ℕ)
-    (lentPicture lentTags oldPicture oldTags : List ℕ) (oldAnswer : JvAnswer) →
-    PaintRowAnswer old memory width height y limit lentPicture lentTags oldAnswer oldPicture oldTags → oldAnswer .number ≡ 0 →
-    (otherPicture otherTags newPicture newTags : List ℕ) (newAnswer : JvAnswer) →
-    PaintRowAnswer new memory width height y limit otherPicture otherTags newAnswer newPicture newTags → newAnswer .number ≡ 0 →
-    (picture tags marks : List ℕ) (answer : JvAnswer) (picture′ tags′ marks′ : List ℕ) →
-    RepaintAnswer old new memory width height limit picture tags marks answer picture′ tags′ marks′ → answer .number ≡ 0 →
-    ((oldPicture ≡ newPicture) × (oldTags ≡ newTags) → ⊥) → getD marks′ y 0 ≡ 1
-unfolding PaintRowAnswer
-nothing-missed old new memory width height limit y lentPicture lentTags oldPicture oldTags oldAnswer o zo otherPicture otherTags newPicture newTags newAnswer n zn picture tags marks answer picture′ tags′ marks′ x z differ =
-    let passed = drew old (length memory) width height limit _ (number-of (sym (o .answered)) ∙ zo) .0 in
-    let inside : y < height = ltb-true y height (and-left (ltb y height) _ (passed .runs)) in
-    let before = paints-new o zo in
-    let after = paints-new n zn in
-    mark-on (x .done z .marks .each y inside)
-    (λ e.
-    let same = same-rows memory (ran old memory limit .actions) (ran new memory limit .actions) width y e in
-    differ (before .0 ∙ same .0 ∙ sym (after .0), before .1 ∙ same .1 ∙ sym (after .1)))
-
 pub edits-hold : HoldsOfEdits
-edits-hold =
-    record { equalRows = same-rows; carriedOver = carried-over; itself = itself; frameFree = frame-free; nothingMissed = nothing-missed }
+unfolding PaintRowAnswer
+edits-hold = record {
+  equalRows = same-rows;
+  carriedOver = λ old new memory width height limit lentPicture lentTags picture tags oldAnswer o zo otherPicture otherTags newPicture newTags newAnswer n zn marks answer picture′ tags′ marks′ long x.
+      carried x
+      (framed old memory width height limit lentPicture lentTags oldAnswer picture tags o zo)
+      (framed new memory width height limit otherPicture otherTags newAnswer newPicture newTags n zn)
+      long;
+  itself = λ list memory width height limit picture tags marks answer picture′ tags′ marks′ x z.
+      let left = x .done z in
+      let long = repaint-long x z in
+      let none : marks′ ≡ replicate height 0 = marks-none (left .marks) in
+      let zeros : (y : ℕ) → y < height → getD marks′ y 0 ≡ 0 = λ y l. ap (λ (m : List ℕ). getD m y 0) none ∙ getD-replicate height y 0 0 l in (
+        repaint-count x z ∙ marked-none marks′ height zeros,
+        (none, (left .colours ∙ mended-itself (left .marks) _ (3 * width) picture (long .0), left .tagBytes ∙ mended-itself (left .marks) _ width tags (long .1))),
+      );
+  frameFree = λ old new memory width height limit picture tags marks answer picture′ tags′ marks′ l m x otherPicture otherTags otherMarks otherAnswer otherPicture′ otherTags′ otherMarks′ k n.
+      answer-settled (lent-for width height picture tags marks l m ∙ sym (lent-for width height otherPicture otherTags otherMarks k n)) x;
+  nothingMissed = λ old new memory width height limit y lentPicture lentTags oldPicture oldTags oldAnswer o zo otherPicture otherTags newPicture newTags newAnswer n zn picture tags marks answer picture′ tags′ marks′ x z differ.
+      let passed = drew old (length memory) width height limit _ (number-of (sym (o .answered)) ∙ zo) .0 in
+      let inside : y < height = ltb-true y height (and-left (ltb y height) _ (passed .runs)) in
+      let before = paints-new o zo in
+      let after = paints-new n zn in
+      mark-on (x .done z .marks .each y inside)
+      (λ e.
+      let same = same-rows memory (ran old memory limit .actions) (ran new memory limit .actions) width y e in
+      differ (before .0 ∙ same .0 ∙ sym (after .0), before .1 ∙ same .1 ∙ sym (after .1)));
+}

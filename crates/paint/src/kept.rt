@@ -1,6 +1,5 @@
 // The drawing actions of a list, kept as numbers: a list is run once, and a row reads the actions that can reach it.
-ghost use mathlib.Core.Path.{_≡_};
-ghost use Prim.Native.Nat.{ℕ, _<_, _≤_, _+_, _*_, _^_};
+ghost use Prim.Native.Nat.{_<_, _≤_, _+_, _*_, _^_};
 ghost use lib.ListN.{length};
 ghost use Rattle.paint.specs.Actions.{Rooms, Keeps, Gathers};
 use crate::reach;

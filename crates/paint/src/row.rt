@@ -1,10 +1,9 @@
 // One action drawn into one row. `draw` shows the order: which columns the action reaches, whether it does the same to all
 // of them, and then the columns one by one.
 ghost use mathlib.Core.Path.{_≡_};
-ghost use Prim.Native.Nat.{ℕ, _<_, _≤_, _-_, _^_};
+ghost use Prim.Native.Nat.{_<_, _≤_, _-_, _^_};
 ghost use Rattle.pixel.specs.Plain.{filled};
 ghost use Rattle.pixel.specs.Pixel.{cleared};
-ghost use Rattle.paint.specs.Picture.{outlineOf};
 ghost use Rattle.paint.specs.Runs.{Lent, Swept, Touched, PlainDrawing, PlainOver, Drawn, brushOf, change, held, inked, pixelIn, texelIn};
 use crate::point;
 use crate::reach;

@@ -4,8 +4,7 @@ use mathlib.Core.List.{List}
 use mathlib.Core.Path.{_≡_, refl, sym, _∙_, ap, subst}
 use Prim.Native.Nat.{ℕ, _+_, _-_, _<_, _≤_}
 use native.Mathlib.Omega.{arith}
-use Rattle.action.specs.declared.Action.{Action}
-use Rattle.engine.specs.Run.{Advances, Ran, Spent, State, heard, run, then}
+use Rattle.engine.specs.Run.{Advances, Ran, Spent, heard, run, then}
 use Rattle.engine.specs.declared.kept.Engine.{Engine}
 use Rattle.engine.specs.declared.run.Advanced.{Advanced}
 use Rattle.engine.specs.declared.run.Find.{Find}

@@ -1,9 +1,9 @@
 -- One step of two lists side by side: what is passed tells nothing of a row that stands beside, and what is not passed settles it.
-use mathlib.Core.Bool.{Bool, true, false, not, cond, _&&_, _||_, and-false, and-true, or-true}
+use mathlib.Core.Bool.{Bool, true, false, not, _&&_, _||_, and-false, and-true}
 use mathlib.Core.List.{List, [], _∷_, cons-ne-nil, head-eq-of-cons-eq, tail-eq-of-cons-eq}
 use mathlib.Core.Logic.{_⊎_, inl, inr, ⊎-elim}
 use mathlib.Core.Path.{_≡_, refl, sym, _∙_, ap}
-use Prim.Native.Nat.{ℕ, _+_, _<_, _≤_}
+use Prim.Native.Nat.{ℕ, _<_, _≤_}
 use native.Mathlib.Omega.{arith}
 use lib.Dec.{eqb, leb, ltb}
 use lib.ListN.{length, getD}
@@ -19,7 +19,7 @@ use Rattle.shape.proofs.Reaching.{row-by-none}
 use Rattle.shape.specs.OneRow.{larger, smaller}
 use Rattle.units.specs.Units.{pixelAt}
 use Rattle.repaint.specs.Repaint.{reaching}
-use Rattle.repaint.specs.Rows.{Alike, Bounded, Compares, Passes, Stands, Stood, Touches, Turns, beside, here, isDrawn, later, meetsRow, paceOf, passed, reachesAt, standing, withRest}
+use Rattle.repaint.specs.Rows.{Alike, Bounded, Compares, Passes, Stood, Touches, Turns, beside, here, isDrawn, later, meetsRow, paceOf, passed, reachesAt, standing, withRest}
 use Rattle.repaint.specs.declared.compare.Pace.{Pace}
 
 -- ONE ROW, one action

@@ -1,9 +1,9 @@
 -- A walk through both lists: how the rows stand at each turn, and at its end; and the walks one after another.
-use mathlib.Core.Bool.{Bool, true, false, _||_}
+use mathlib.Core.Bool.{Bool, true, false}
 use mathlib.Core.List.{List}
 use mathlib.Core.Logic.{_⊎_, inl, inr, ⊎-elim}
 use mathlib.Core.Path.{_≡_, refl, sym, _∙_, ap}
-use Prim.Native.Nat.{ℕ, zero, suc, _+_, _-_, _<_, _≤_}
+use Prim.Native.Nat.{ℕ, zero, suc, _-_, _<_, _≤_}
 use native.Mathlib.Nat.{eq-or-lt-of-le}
 use native.Mathlib.Omega.{arith}
 use lib.Dec.{eqb}
@@ -12,7 +12,7 @@ use borrow.Author.Tests.{eqb-false, eqb-true}
 use Rattle.action.specs.declared.Action.{Action}
 use Rattle.engine.specs.declared.run.Find.{Find}
 use Rattle.repaint.specs.Repaint.{Mark, Marks, reaching}
-use Rattle.repaint.specs.Rows.{Alike, AllStand, Begins, Compares, Passes, Seeks, Stands, Turns, Walks, beside, later, passed, withRest}
+use Rattle.repaint.specs.Rows.{AllStand, Begins, Compares, Passes, Seeks, Stands, Turns, Walks, beside, later, passed, withRest}
 use Rattle.repaint.specs.declared.compare.Pace.{Pace}
 use Rattle.repaint.proofs.Marking.{before-or-from}
 

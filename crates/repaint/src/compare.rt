@@ -4,7 +4,6 @@ ghost use Prim.Native.Nat.{_<_, _≤_};
 ghost use lib.ListN.{length, getD};
 ghost use Rattle.action.specs.Same.{Tells};
 ghost use Rattle.repaint.specs.Rows.{Bounded, Compares, Stood, Touches, Turns, beside, here, isDrawn, meetsRow, paceOf, standing};
-use action::Action;
 use engine::Find;
 use paint::reach;
 use paint::reach::Band;

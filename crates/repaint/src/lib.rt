@@ -6,7 +6,7 @@
 // a later one. What still stands beside when both lists have ended is alike. Each walk settles the row that decides which
 // list goes on, so there are no more walks than rows; a word that is changed takes one, an action put in takes two.
 ghost use mathlib.Core.Path.{_≡_};
-ghost use Prim.Native.Nat.{ℕ, _+_, _<_, _≤_, _*_, _^_};
+ghost use Prim.Native.Nat.{_+_, _<_, _≤_, _*_, _^_};
 ghost use lib.ListN.{length};
 ghost use Rattle.engine.specs.Run.{run, atStart};
 ghost use Rattle.paint.specs.Picture.{mended, rowColours, rowTags};

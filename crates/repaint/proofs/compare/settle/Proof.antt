@@ -3,7 +3,6 @@ use mathlib.Core.Path.{_≡_, _∙_, refl}
 use Prim.Native.Nat.{_-_, _≤_}
 use native.Mathlib.Omega.{arith}
 use borrow.Author.Needs.{needs}
-use lib.ListN.{length}
 use Rattle.repaint.specs.Rows.{beside, meetsRow, standing}
 use Rattle.repaint.proofs.Marking.{Done, done-none, done-set, done-skip, stood-done}
 use Rattle.repaint.proofs.compare.settle.Statement.{statement}
