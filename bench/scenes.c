@@ -9,7 +9,7 @@
 typedef struct {
     uint32_t *words;
     size_t count;
-    bool is_word_changed, is_action_inserted;
+    bool is_word_changed, is_action_inserted, are_colours_changed;
 } draft;
 
 static void put(draft *d, uint32_t word)
@@ -32,6 +32,8 @@ static void put_rectangle(draft *d, uint32_t x, uint32_t y, uint32_t width, uint
 /* The colours go with n and none is like another nearby. */
 static void put_colour(draft *d, uint32_t n)
 {
+    if (d->are_colours_changed)
+        n++;
     put(d, COLOR_RGB(64 + 37 * n % 192, 64 + 59 * n % 192, 64 + 83 * n % 192));
 }
 
@@ -264,7 +266,8 @@ static const struct {
 
 size_t write_scene(const char *name, const char *edit, uint32_t words[MOST_WORDS])
 {
-    draft d = { words, 0, strcmp(edit, "word") == 0, strcmp(edit, "action") == 0 };
+    draft d = { words, 0, strcmp(edit, "word") == 0, strcmp(edit, "action") == 0,
+                strcmp(edit, "colours") == 0 };
     for (size_t n = 0; n < sizeof scenes / sizeof scenes[0]; n++)
         if (strcmp(scenes[n].name, name) == 0)
             scenes[n].write(&d);

@@ -17,7 +17,8 @@ enum { SCENE_WIDTH = 800, SCENE_HEIGHT = 480 };
      full     2048 words: state changes, shapes, icons, saves, restores and calls
    and after the edit of this name, or as it is where the name is empty:
      word     one word changed: in shapes and map the colour of a rectangle, in icons and full the place of an icon
-     action   a BEGIN and an action more, which reaches 24 rows: in shapes and map a rectangle, in the others an icon */
+     action   a BEGIN and an action more, which reaches 24 rows: in shapes and map a rectangle, in the others an icon
+     colours  every colour changed */
 size_t write_scene(const char *name, const char *edit, uint32_t words[MOST_WORDS]);
 
 /* The bytes of the icons. */

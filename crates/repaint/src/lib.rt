@@ -4,7 +4,7 @@
 // passed so far reach it alike in both lists. Where the two come to different actions, a row that both reach differs, and
 // it is marked. One of them is then passed; a row that it reaches alone cannot be told in this walk and is left for
 // a later one. What still stands beside when both lists have ended is alike. Each walk settles the row that decides which
-// list goes on, so there are no more walks than rows; a word that is changed takes one, an action put in takes two.
+// list goes on, so there are no more walks than rows; most often a changed word takes one, and an action put in two.
 ghost use mathlib.Core.Path.{_≡_};
 ghost use Prim.Native.Nat.{_+_, _<_, _≤_, _*_, _^_};
 ghost use lib.ListN.{length};
