@@ -1,9 +1,10 @@
 -- The actions that reach a row settle its pixels, and those of two lists its mark. Assumes nothing.
 use mathlib.Core.Bool.{Bool, true, false, cond}
 use mathlib.Core.List.{List, [], _∷_}
-use mathlib.Core.Logic.{inl, inr}
+use mathlib.Core.Logic.{inl, inr, ⊎-elim}
 use mathlib.Core.Path.{_≡_, refl, sym, _∙_, ap}
-use Prim.Native.Nat.{ℕ, zero, suc, _*_, _<_}
+use Prim.Native.Nat.{ℕ, zero, suc, _+_, _*_, _<_}
+use native.Mathlib.Nat.{eq-or-lt-of-le, not-suc-le-zero}
 use native.Mathlib.Omega.{arith}
 use lib.Dec.{eqb}
 use lib.ListN.{length, getD, replicate, getD-replicate, length-replicate}
@@ -13,7 +14,7 @@ use Rattle.action.specs.declared.Action.{Action}
 use Rattle.paint.proofs.Rows.{colours-long, colours-same, tags-long, tags-same}
 use Rattle.paint.proofs.Mending.{mended-all, mended-none}
 use Rattle.paint.proofs.Stacks.{row-stacked}
-use Rattle.paint.specs.Picture.{drawnAt, drawnBy, mended, outlineOf, pixelOf, rowColours, rowTags, stacked}
+use Rattle.paint.specs.Picture.{drawnAt, drawnBy, isMarked, mended, outlineOf, pixelOf, rowColours, rowTags, stacked}
 use Rattle.pixel.specs.declared.Pixel.{Pixel}
 use Rattle.shape.proofs.Reaching.{none-reached}
 use Rattle.shape.specs.Cover.{reachesRow}
@@ -89,6 +90,22 @@ pub marked-none : (marks : List ℕ) (n : ℕ) → ((y : ℕ) → y < n → getD
 unfolding marked
 marked-none marks zero h = refl
 marked-none marks (suc n) h = rw (marked-none marks n (λ y l. h y (omega arith)), h n (omega arith))
+
+-- where no row is marked, every byte stays
+unmarked : (marks : List ℕ) (n : ℕ) → marked marks n ≡ 0 → (y : ℕ) → y < n → isMarked marks y ≡ false
+unfolding marked
+unmarked marks zero e y l = absurd (not-suc-le-zero l)
+unmarked marks (suc n) e y l =
+    ⊎-elim (λ (i : y ≡ n). rw i (last (isMarked marks n) e)) (λ (i : y < n). unmarked marks n (omega (arith, e)) y i) (eq-or-lt-of-le (omega arith))
+  where
+    last : (b : Bool) → marked marks n + cond b 1 0 ≡ 0 → b ≡ false
+    last true z = absurd (omega (arith, z))
+    last false z = refl
+
+pub none-mended :
+    (marks : List ℕ) (row : ℕ → List ℕ) (wide : ℕ) (lent : List ℕ) → marked marks (length marks) ≡ 0 → length lent ≡ length marks * wide →
+    lent ≡ mended marks row wide lent
+none-mended marks row wide lent none long = sym (mended-none marks row wide lent (unmarked marks (length marks) none) long)
 
 -- A FRAME that held the old list's rows holds the new list's
 module _ (memory : List ℕ) (old new : List Action) (width height : ℕ) (marks : List ℕ) (m : Marks old new width height marks) where

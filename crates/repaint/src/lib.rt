@@ -133,6 +133,9 @@ pub fn repaint(
     ensures { λ r. ⌜ r ≡ marked (now (marks .exit)) (length (now (marks .entry))) ⌝ }
 {
     mark(old, new, memory.len() as u32, limit, width, marks);
-    paint::paint_marked(new, memory, limit, width, marks, picture, tags);
-    count(marks)
+    let rows = count(marks);
+    if 0 < rows {
+        paint::paint_marked(new, memory, limit, width, marks, picture, tags);
+    }
+    rows
 }
