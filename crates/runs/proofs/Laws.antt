@@ -1,6 +1,6 @@
 -- Laws of bytes laid over a run and of a part of one. Assumes nothing.
 use mathlib.Core.List.{List, [], _∷_, _++_, append-assoc, append-nil}
-use mathlib.Core.Path.{_≡_, refl, sym, ap, _∙_}
+use mathlib.Core.Path.{_≡_, sym, ap, _∙_}
 use Prim.Native.Nat.{ℕ, suc, _+_, _-_, _<_, _≤_}
 use native.Mathlib.Nat.{add-sub-cancel-left, add-suc, add-zero, suc-add, zero-add}
 use native.Mathlib.Omega.{arith}

@@ -31,8 +31,7 @@ module _ (target source count i : ℕ) (run : List ℕ) where
       ≡ laid (target + (i - 1)) (part (source + (i - 1)) (count - (i - 1)) run) run
   up-more p h z l =
       let n : length (part (source + i) (count - i) run) ≡ count - i = part-long (source + i) (count - i) run (omega arith) in
-      let read : getD (laid (target + i) (part (source + i) (count - i) run) run) (source + (i - 1)) 0 ≡ getD run (source + (i - 1)) 0 =
-      laid-before (target + i) (part (source + i) (count - i) run) run (source + (i - 1)) (omega arith) (omega arith) in
+      let read : getD (laid (target + i) (part (source + i) (count - i) run) run) (source + (i - 1)) 0 ≡ getD run (source + (i - 1)) 0 = laid-before (target + i) (part (source + i) (count - i) run) run (source + (i - 1)) (omega arith) (omega arith) in
       let t : suc (target + (i - 1)) ≡ target + i = omega arith in
       let s : suc (source + (i - 1)) ≡ source + i = omega arith in
       let m : count - (i - 1) ≡ suc (count - i) = omega arith in

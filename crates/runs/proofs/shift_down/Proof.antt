@@ -1,6 +1,5 @@
-use mathlib.Core.Path.{_∙_, _≡_, refl, sym}
-use Prim.Native.Nat.{_+_, _-_, _≤_, zero-le}
-use native.Mathlib.Nat.{add-zero, le-refl}
+use mathlib.Core.Path.{_≡_, refl, sym}
+use Prim.Native.Nat.{_-_, _≤_, zero-le}
 use native.Mathlib.Omega.{arith}
 use lib.ListN.{length, length-set}
 use Rattle.runs.specs.Runs.{laid, part}

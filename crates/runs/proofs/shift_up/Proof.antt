@@ -1,5 +1,5 @@
-use mathlib.Core.Path.{_∙_, _≡_, refl, sym}
-use Prim.Native.Nat.{_+_, _-_, _≤_, zero-le}
+use mathlib.Core.Path.{_≡_, refl, sym}
+use Prim.Native.Nat.{_+_, _-_, _≤_}
 use native.Mathlib.Nat.{add-zero, le-refl, sub-self, sub-zero}
 use native.Mathlib.Omega.{arith}
 use lib.ListN.{length, length-set}
@@ -50,7 +50,7 @@ returns : tie.Need-returns Inv-loop μ-loop
 returns c =
     let v = c .before .loop .inv in
     let e : c .before .loop .i ≡ 0 = omega arith in
-    rw (e, add-zero, add-zero, sub-zero) at (v .1 .0)
+    simp (e, add-zero, sub-zero) at (v .1 .0)
 
 pub shift-up-spec : {M : Type 1} → statement M
 shift-up-spec =
