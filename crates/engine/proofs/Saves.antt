@@ -4,6 +4,7 @@ use mathlib.Core.List.{List, [], _∷_}
 use Prim.Native.Nat.{ℕ, zero, suc, _+_, _≤_}
 use native.Mathlib.Omega.{arith}
 use lib.ListN.{length, take}
+use Rattle.runs.specs.Runs.{wordAt}
 use Rattle.words.specs.Words.{readWord}
 use Rattle.words.specs.declared.reading.Read.the-variants as r
 use Rattle.words.specs.declared.word.Word.the-variants as v
@@ -16,7 +17,7 @@ use Rattle.engine.specs.declared.machine.Machine.{Machine}
 use Rattle.engine.specs.Kept.{keptWith, newest, dropped, begun, pushed, popped}
 use Rattle.engine.specs.Changes.{withPlace}
 use Rattle.engine.specs.Machine.{Steps, obeys, stepsBy, steps}
-use Rattle.engine.specs.Run.{State, placeOf, wordAt, settled, eventOf, nextOf}
+use Rattle.engine.specs.Run.{State, placeOf, settled, eventOf, nextOf}
 use Rattle.engine.specs.Saves.{saved, Whole, Saved, Restored, afterSaves, KeptAsSaid}
 
 -- what holds of every array of four with a count of 0 to 4 holds of all that is whole

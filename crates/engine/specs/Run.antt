@@ -4,13 +4,14 @@
 use mathlib.Core.Path.{_≡_}
 use mathlib.Core.Bool.{Bool, true, false, cond, _&&_}
 use mathlib.Core.List.{List, [], _∷_}
-use Prim.Native.Nat.{ℕ, zero, suc, _+_, _-_, _*_, _<_, _≤_, _^_}
+use Prim.Native.Nat.{ℕ, zero, suc, _+_, _-_, _<_, _≤_}
 use lib.Dec.{ltb, leb}
-use lib.ListN.{getD, length, replicate}
+use lib.ListN.{length, replicate}
 use Rattle.action.specs.declared.Action.{Action}
 use Rattle.action.specs.declared.ink.Clear.{Clear}
 use Rattle.action.specs.declared.Drawing.{Drawing}
 use Rattle.action.specs.declared.Drawing.the-variants as d
+use Rattle.runs.specs.Runs.{wordAt}
 use Rattle.engine.specs.declared.run.Advanced.{Advanced}
 use Rattle.engine.specs.declared.run.Ending.{Ending}
 use Rattle.engine.specs.declared.run.Find.{Find}
@@ -42,11 +43,7 @@ drawingOf c (s.Bitmap b) = d.Bitmap b (inkOf (c .brush))
 unfoldable pub actionOf : Context → Shape → Action
 actionOf c shape = record { scissor = scissorOf (c .placing); masks = c .masks; drawing = drawingOf c shape }
 
--- ONE STEP. A list is little-endian.
-unfoldable pub wordAt : List ℕ → ℕ → ℕ
-wordAt list at = getD list at 0 + (2 ^ 8 * getD list (at + 1) 0 + (2 ^ 16 * getD list (at + 2) 0 + 2 ^ 24 * getD list (at + 3) 0))
-
--- what a step changes; the list and RAM_G's length stay
+-- ONE STEP. What it changes; the list and RAM_G's length stay
 pub record State : Type 0 where
   pub engine : Engine
   pub handles : List ℕ

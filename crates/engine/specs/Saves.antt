@@ -5,6 +5,7 @@ use mathlib.Core.Path.{_≡_}
 use mathlib.Core.List.{List, [], _∷_, reverse}
 use Prim.Native.Nat.{ℕ, _+_, _≤_}
 use lib.ListN.{length, take, drop}
+use Rattle.runs.specs.Runs.{wordAt}
 use Rattle.words.specs.Words.{readWord}
 use Rattle.words.specs.declared.reading.Read.the-variants as r
 use Rattle.words.specs.declared.word.Word.the-variants as v
@@ -15,7 +16,7 @@ use Rattle.engine.specs.declared.machine.Machine.{Machine}
 use Rattle.engine.specs.Changes.{withPlace}
 use Rattle.engine.specs.Context.{starting}
 use Rattle.engine.specs.Kept.{keptWith, newest, dropped, begun, pushed, popped}
-use Rattle.engine.specs.Run.{State, placeOf, wordAt, nextOf}
+use Rattle.engine.specs.Run.{State, placeOf, nextOf}
 
 -- the kept contexts, newest first: those of the array that are counted, the other way round
 abbrev pub saved : Kept → List Context

@@ -1,8 +1,8 @@
 // A run from one drawing action to the next.
 ghost use mathlib.Core.Path.{_≡_};
-ghost use Prim.Native.Nat.{_≤_, _<_, _+_, _^_};
-ghost use lib.ListN.{getD, length};
-ghost use Rattle.engine.specs.Run.{clearOf, drawingOf, actionOf, wordAt, isKept, found, Advances, atStart, endingOf, run as ran};
+ghost use Prim.Native.Nat.{_≤_, _^_};
+ghost use lib.ListN.{length};
+ghost use Rattle.engine.specs.Run.{clearOf, drawingOf, actionOf, isKept, found, Advances, atStart, endingOf, run as ran};
 use crate::context::Context;
 use crate::kept::Engine;
 use crate::kept::Kept;
@@ -31,33 +31,6 @@ fn wide(at: u32) -> usize
     ensures { λ r. ⌜ r ≡ at ⌝ }
 {
     at as usize
-}
-
-fn byte(list: &[u8], at: usize) -> u32
-    ensures { λ r. ⌜ r ≡ getD (now (list .entry)) at 0 ⌝ }
-    ensures { λ r. ⌜ r < 256 ⌝ }
-{
-    if at < list.len() {
-        return list[at] as u32;
-    }
-    0
-}
-
-// The word at a place; bytes past the list's end count as 0, and no word of a list of whole words has any. Four plain
-// reads are one load.
-fn word_at(list: &[u8], at: u32) -> u32
-    requires { ⌜ length (now list) ≤ 8192 ⌝ }
-    ensures { λ r. ⌜ r ≡ wordAt (now (list .entry)) at ⌝ }
-{
-    let i = at as usize;
-    if i + 3 < list.len() {
-        return list[i] as u32
-            + (0x100 * list[i + 1] as u32
-                + (0x10000 * list[i + 2] as u32 + 0x1000000 * list[i + 3] as u32));
-    }
-    byte(list, i)
-        + (0x100 * byte(list, i + 1)
-            + (0x10000 * byte(list, i + 2) + 0x1000000 * byte(list, i + 3)))
 }
 
 fn clear(context: Context, flags: Flags) -> Clear
@@ -160,7 +133,7 @@ pub fn advance(
             return over(now, kept, left, 10, at);
         }
         left = left - 1;
-        let bits = word_at(list, at);
+        let bits = runs::word_at(list, at);
         now.at = at + 4;
         let stepped = now.step(handles, memory, bits);
         let next = stepped.machine;

@@ -1,31 +1,32 @@
 -- Document 01, 'Checked by hand': 'Proved of the meaning itself, as a single table under a single claim: 1-12.' The claim is `CheckedByHand`; example 13 is
 -- run and compared.
 use mathlib.Core.Path.{_≡_}
-use mathlib.Core.List.{List, [], _∷_}
-use Prim.Native.Nat.{ℕ, zero, suc, _/_, _%_, _^_}
+use mathlib.Core.List.{List, [], _∷_, _++_}
+use Prim.Native.Nat.{ℕ, zero, suc}
 use lib.IntN.{ℤ, pos, negℤ}
 use Rattle.action.specs.declared.numbers.Factor.the-variants.{One}
 use Rattle.engine.specs.Run.{State, nextOf, Ran, run, atStart}
 use Rattle.pixel.specs.Blend.{product, weight, blended}
+use Rattle.runs.specs.Runs.{bytesOf}
 use Rattle.units.specs.Units.{meantPixels, floor16, sixteenthAt, floored}
 use Rattle.words.specs.declared.reading.Read.the-variants.{Command, NoMeaning}
 use Rattle.words.specs.declared.word.Word.the-variants.{Vertex2f, Vertex2ii, ScissorSize}
 use Rattle.words.specs.Words.{readWord}
 
--- a list's bytes: each word 'little-endian'
-abbrev pub bytesOf : List ℕ → List ℕ
-bytesOf [] = []
-bytesOf (w ∷ ws) = w % 2 ^ 8 ∷ w / 2 ^ 8 % 2 ^ 8 ∷ w / 2 ^ 16 % 2 ^ 8 ∷ w / 2 ^ 24 % 2 ^ 8 ∷ bytesOf ws
+-- the list of these words, as bytes
+abbrev pub listOf : List ℕ → List ℕ
+listOf [] = []
+listOf (w ∷ ws) = bytesOf w ++ listOf ws
 
 -- these words run from the start, with no RAM_G and so many words allowed: they draw nothing and end with this number, place and count
 abbrev pub Ends : List ℕ → ℕ → ℕ → ℕ → ℕ → Type 0
 Ends words limit number place count =
-    run (bytesOf words) 0 limit atStart ≡ record { actions = []; number = number; place = place; count = count }
+    run (listOf words) 0 limit atStart ≡ record { actions = []; number = number; place = place; count = count }
 
 -- the state after so many of these words
 abbrev pub afterWords : List ℕ → ℕ → State
 afterWords words zero = atStart
-afterWords words (suc n) = nextOf (bytesOf words) 0 (afterWords words n)
+afterWords words (suc n) = nextOf (listOf words) 0 (afterWords words n)
 
 -- COLOR_A 1 to 5 (10), each saved (22), and five restores (23); the alpha that is current after so many of these words
 abbrev pub saves : List ℕ

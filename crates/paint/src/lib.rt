@@ -2,7 +2,7 @@
 // that reach it.
 ghost use mathlib.Core.Path.{_≡_};
 ghost use Prim.Native.Nat.{ℕ, _<_, _≤_, _+_, _*_, _^_};
-ghost use lib.ListN.{length, replicate};
+ghost use lib.ListN.{length};
 ghost use Rattle.engine.specs.Run.{run, atStart};
 ghost use Rattle.units.specs.Units.{pixelAt};
 ghost use Rattle.store.specs.Store.{keptAt};
@@ -19,17 +19,6 @@ use engine::Engine;
 use engine::Find;
 use kept::Gathered;
 use units::Pixels;
-
-// Each byte of the run becomes this one.
-pub fn flood(run: &mut [u8], with: u8)
-    ensures { λ _. ⌜ now (run .exit) ≡ replicate (length (now (run .entry))) with ⌝ }
-{
-    let mut i: usize = 0;
-    while i < run.len() {
-        run[i] = with;
-        i += 1;
-    }
-}
 
 // Draws the k-th kept action into row y, or leaves it at once where its band tells that it does not reach the row.
 fn draw_kept(
@@ -213,8 +202,8 @@ fn paint_row(
 {
     let mut alpha = [0u8; 800];
     let mut stencil = [0u8; 800];
-    flood(picture, 0);
-    flood(tags, 0);
+    runs::flood(picture, 0);
+    runs::flood(tags, 0);
     draw_all(
         gathered,
         numbers,

@@ -89,7 +89,7 @@ fn mark(old: &[u8], new: &[u8], memory: u32, limit: u32, width: u32, marks: &mut
     requires { ⌜ (length (now marks) ≤ 600) × (width ≤ 800) ⌝ }
     ensures { λ _. ⌜ Marks (run (now (old .entry)) memory limit atStart .actions) (run (now (new .entry)) memory limit atStart .actions) width (length (now (marks .entry))) (now (marks .exit)) ⌝ }
 {
-    paint::flood(marks, LATER);
+    runs::flood(marks, LATER);
     let height = marks.len() as u32;
     let mut y: u32 = 0;
     while y < height {
