@@ -52,7 +52,7 @@ pub fn flood(run: &mut [u8], with: u8)
     }
 }
 
-// Front to back: no byte is written before it is read, since the target does not lie behind the source.
+// Front to back: where the target does not lie past the source, no byte is written before it is read.
 fn shift_down(run: &mut [u8], target: usize, source: usize, count: usize)
     requires { ⌜ (target ≤ source) × (source + count ≤ length (now run)) ⌝ }
     ensures { λ _. ⌜ now (run .exit) ≡ laid target (part source count (now (run .entry))) (now (run .entry)) ⌝ }
@@ -64,7 +64,7 @@ fn shift_down(run: &mut [u8], target: usize, source: usize, count: usize)
     }
 }
 
-// Back to front, where the target lies behind the source.
+// Back to front: the same where the target does not lie before the source.
 fn shift_up(run: &mut [u8], target: usize, source: usize, count: usize)
     requires { ⌜ (source ≤ target) × (target + count ≤ length (now run)) ⌝ }
     ensures { λ _. ⌜ now (run .exit) ≡ laid target (part source count (now (run .entry))) (now (run .entry)) ⌝ }
