@@ -4,4 +4,5 @@ pub mod Editing
 pub mod Examples
 pub mod Painted
 pub mod Repainted
+pub mod Rings
 pub mod Words

@@ -4,4 +4,5 @@ pub mod Edits
 pub mod Examples
 pub mod Paint
 pub mod Repaint
+pub mod Ring
 pub mod Words

@@ -5,12 +5,17 @@ ghost use mathlib.Core.Path.{_≡_};
 mod check;
 mod painting;
 mod repainting;
+mod ringing;
 
 pub use check::JvAnswer;
 pub use check::jv_check;
 pub use painting::jv_paint;
 pub use painting::jv_paint_row;
 pub use repainting::jv_repaint;
+pub use ringing::JvRing;
+pub use ringing::jv_ring_reset;
+pub use ringing::jv_ring_run;
+pub use ringing::jv_ring_write;
 use words::Spelling;
 use words::Spelt;
 use words::Written;
