@@ -1,6 +1,8 @@
 /* cost PROGRAM TASK LIST TIMES [EDIT]: has a list checked or painted, or repainted after an edit of it, so many times
    by one of two programs, the library (ours) or the second program of the tests (theirs). Prints how many words one run
-   fetches and, for painting, how many pixels its actions cover; for repainting, how many rows are marked. */
+   fetches and, for painting, how many pixels its actions cover; for repainting, how many rows are marked.
+
+   cost PROGRAM ring RING TIMES: the same of a ring, as rings.h says. */
 #include <inttypes.h>
 #include <stdio.h>
 #include <stdlib.h>
@@ -9,6 +11,7 @@
 #include "../tests/repainter.h"
 #include "jokulvisp.h"
 #include "lists.h"
+#include "rings.h"
 #include "scenes.h"
 
 enum { PIXELS = SCENE_WIDTH * SCENE_HEIGHT };
@@ -95,19 +98,28 @@ static size_t write_bytes(uint8_t bytes[4 * MOST_WORDS], const char *name, const
     return 4 * count;
 }
 
+static int tell_usage(void)
+{
+    fputs("usage: cost ours|theirs check|paint|repaint setters|vertices|calls|shapes|map|icons|full TIMES "
+          "[word|action]\n"
+          "       cost ours|theirs ring words|small|memset|up|down|append|host TIMES\n",
+          stderr);
+    return 2;
+}
+
 int main(int count, char **arguments)
 {
     bool is_whole = count == 5 || count == 6;
     const char *name = is_whole ? arguments[3] : "", *edit = count == 6 ? arguments[5] : "";
+    unsigned long times = is_whole ? strtoul(arguments[4], NULL, 10) : 0;
+    if (is_whole && strcmp(arguments[2], "ring") == 0) {
+        int status = measure_ring(arguments[1], name, times);
+        return status == 2 ? tell_usage() : status;
+    }
     ask *answer_to = is_whole ? find_ask(arguments[1], arguments[2]) : NULL;
     size_t old_length = write_bytes(old_list, name, ""), length = write_bytes(list, name, edit);
-    unsigned long times = is_whole ? strtoul(arguments[4], NULL, 10) : 0;
-    if (answer_to == NULL || length == 0 || times == 0) {
-        fputs("usage: cost ours|theirs check|paint|repaint setters|vertices|calls|shapes|map|icons|full TIMES "
-              "[word|action]\n",
-              stderr);
-        return 2;
-    }
+    if (answer_to == NULL || length == 0 || times == 0)
+        return tell_usage();
     fill_scene_ram_g(ram_g);
     repaint_request request = { .old_list = old_list,
                                 .old_list_length = old_length,

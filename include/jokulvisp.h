@@ -1,5 +1,5 @@
 /* jokulvisp.h - display lists of FT81x and BT88x panels: their words read and written, whole lists checked and painted,
- * frames repainted after an edit of their list.
+ * frames repainted after an edit of their list, and the ring of commands run that fills a list on the panel.
  *
  * This file is the library's manual as well as its declarations. The archive to link is libjokulvisp.a; it holds x86-64
  * code only. The header is C11 and C++.
@@ -27,8 +27,8 @@ extern "C" {
 
 /* ---- Numbers -----------------------------------------------------------------------------------------------------
  *
- * Each answer begins with one of these. Reading or writing a single word gives 0, 11 or 12 and no other; running a
- * list gives any of them.
+ * Each answer begins with one of these, but for the ring's, which have numbers of their own (see the ring, below).
+ * Reading or writing a single word gives 0, 11 or 12 and no other; running a list gives any of them.
  */
 enum jv_number {
     JV_DONE            = 0,  /* done: the rest of the answer holds */
@@ -399,6 +399,159 @@ jv_answer jv_repaint(const uint8_t *old_list, size_t old_list_length, const uint
                      const uint8_t *ram_g, size_t ram_g_length, uint32_t width, uint32_t height, uint32_t limit,
                      uint8_t *picture, size_t picture_length, uint8_t *tags, size_t tags_length, uint8_t *marks,
                      size_t marks_length);
+
+/* ---- The ring ----------------------------------------------------------------------------------------------------
+ *
+ * The panel's coprocessor takes its commands out of a ring that the host writes them into. It puts display list words
+ * into RAM_DL, works on RAM_G, and has RAM_DL shown at a swap. Here all of these are byte runs of the caller's:
+ *
+ *   ring     RAM_CMD, 4096 bytes
+ *   ram_dl   RAM_DL, the list that is being written, 8192 bytes
+ *   shown    the list that was shown last, 8192 bytes, which jv_check and jv_paint take
+ *   ram_g    RAM_G, 0 to 1048576 bytes
+ *
+ * The words in them have their lowest byte first. Four marks say how far things are. They too are the caller's: a call
+ * takes them as numbers and gives them back in its answer, to be handed to the next call.
+ *
+ *   read     where in the ring the next command starts, in bytes from the ring's start: 0 to 4092, a multiple of 4
+ *   write    where the host's next word goes, likewise. The words from read up to write wait, after the ring's last
+ *            word from its first again. Where both are equal nothing waits, so no more than 4092 bytes can
+ *   offset   where in RAM_DL the next word goes, in bytes: 0 to 8192, a multiple of 4. At 8192 RAM_DL is full
+ *   fault    0 for none, 1 after a fault. Any other number is taken for a fault as well
+ *
+ * A word whose top byte is not FF is a command by itself, whatever it says: it goes to RAM_DL, and offset moves on by
+ * 4. The others, with the words that follow them as parameters:
+ *
+ *   FFFFFF00   DLSTART                           offset becomes 0
+ *   FFFFFF01   SWAP                              shown becomes what RAM_DL is, all of it; RAM_DL and offset stay
+ *   FFFFFF1B   MEMSET    address, value, count   so many bytes of RAM_G become the low byte of the value
+ *   FFFFFF1C   MEMZERO   address, count          so many bytes of RAM_G become 0
+ *   FFFFFF1D   MEMCPY    target, source, count   so many bytes of RAM_G at target become those that were at source; the
+ *                                                two may overlap, as if the source were copied elsewhere first
+ *   FFFFFF1E   APPEND    address, count          so many bytes of RAM_G go to RAM_DL, and offset moves on by so many
+ *   FFFFFF32   COLDSTART                         nothing yet
+ *
+ * Addresses are bytes from RAM_G's start and need be no multiple of 4; a count is of bytes.
+ */
+enum jv_ring_number {
+    JV_RING_IDLE      = 0,  /* run: nothing waits any more; write and reset: done */
+
+    /* The run has stopped, and the next one goes on from there. */
+    JV_RING_WAITING   = 30, /* the parameters of the next command are not all there; it was not taken */
+    JV_RING_SWAPPED   = 31, /* a swap was made */
+
+    /* The command at place is at fault. It was not taken, and the fault mark is set. */
+    JV_RING_UNKNOWN   = 32, /* top byte FF, and none of the seven commands */
+    JV_RING_LIST_FULL = 34, /* RAM_DL has no room for the word, or for all that APPEND copies */
+    JV_RING_BAD_RANGE = 35, /* an address plus the count lies past RAM_G's end, or APPEND's count is no multiple of 4 */
+
+    /* The call is refused, and nothing is changed. */
+    JV_RING_BAD_MARK  = 33, /* read, write or offset is no multiple of 4, or lies past its end */
+    JV_RING_FAULTY    = 36, /* the fault mark is set already */
+    JV_RING_BAD_RUN   = 37, /* a lent run has another length than it has to have */
+    JV_RING_NO_ROOM   = 38  /* the ring has no room for all of the host's words */
+};
+
+/* The four marks, for a caller who keeps them by themselves. */
+typedef struct { uint32_t read, write, offset, fault; } jv_marks;
+
+/* What a call of the ring came to, and the four marks after it.
+ *
+ *   number     one of jv_ring_number
+ *   place      for 32, 34 and 35 where in the ring the command at fault starts, otherwise 0
+ *   count      how many commands the run took, each word that goes to RAM_DL being one of them; neither a command at
+ *              fault nor one that lacks parameters is counted. Where nothing was run it is 0
+ *   reported   the read mark as the panel shows it (REG_CMD_READ): 0xFFF while the fault mark is set after the call,
+ *              and otherwise what read is
+ */
+typedef struct {
+    uint32_t number, place, count, reported;
+    uint32_t read, write, offset, fault;
+} jv_ring;
+
+/* Runs the ring: takes the commands that wait, one after the other, until there is a reason to stop.
+ *
+ * Takes the ring, which is not written, and the four marks; lends RAM_DL, shown and RAM_G to be written.
+ *
+ * Gives in number, tested in this order,
+ *   37   the ring is not 4096 bytes long, RAM_DL or shown not 8192, or RAM_G longer than 1048576;
+ *   33   read, write or offset is no multiple of 4, read or write above 4092, or offset above 8192;
+ *   36   the fault mark is not 0;
+ * and else, for one command after the other,
+ *   0    nothing waits any more;
+ *   32   its top byte is FF, and it is none of the seven;
+ *   30   it has more parameters than words wait behind it. The host may write the rest, and the next run starts with
+ *        this command again;
+ *   35   address plus count, for MEMCPY target plus count or source plus count, is above RAM_G's length. The sum does
+ *        not wrap. A count of 0 is tested as well: at RAM_G's end it is taken and does nothing, past that it is at
+ *        fault. Or APPEND's count is no multiple of 4;
+ *   34   RAM_DL ends before the word, or before the last byte that APPEND would copy;
+ *   31   it is SWAP, and was taken. What waits behind it is left for the next run.
+ *
+ * The ring holds no more than 1023 words that wait, so a run takes no more than 1023 commands.
+ *
+ * With each command that is taken, read moves past it and its parameters, at the ring's end to its start. DLSTART,
+ * APPEND and the words that go to RAM_DL move offset. write stays.
+ *
+ * 30 sets no fault: read stays at the command that is waiting.
+ *
+ * 32, 34 and 35 set the fault mark to 1, and read stays at the command at fault, which is also the place. That command
+ * has no effect; those before it keep theirs. From then on run and write give 36, until jv_ring_reset.
+ *
+ * 33, 36 and 37 change no byte, and give the marks back as they were.
+ */
+jv_ring jv_ring_run(const uint8_t *ring, size_t ring_length, uint8_t *ram_dl, size_t ram_dl_length, uint8_t *shown,
+                    size_t shown_length, uint8_t *ram_g, size_t ram_g_length, uint32_t read, uint32_t write,
+                    uint32_t offset, uint32_t fault);
+
+/* Writes the host's words into the ring, behind those that wait.
+ *
+ * Takes the words, which may be parts of commands, and the four marks; lends the ring to be written.
+ *
+ * Gives in number, tested in this order,
+ *   37   the ring is not 4096 bytes long, or the words' length is no multiple of 4;
+ *   33   as in jv_ring_run, of all three marks;
+ *   36   the fault mark is not 0;
+ *   38   the words are longer than the room: 4092 bytes, less those that wait;
+ *   0    the words lie in the ring from write on, after its last word from its first again, and write has moved behind
+ *        them. The other bytes of the ring and the other marks stay. There may be no words at all.
+ * All but 0 change no byte, and give the marks back as they were. Place and count are 0.
+ *
+ * The room of a command is free again as soon as a run has taken it.
+ */
+jv_ring jv_ring_write(uint8_t *ring, size_t ring_length, const uint8_t *words, size_t words_length, uint32_t read,
+                      uint32_t write, uint32_t offset, uint32_t fault);
+
+/* Resets the coprocessor, after a fault or to start with: gives 0, and 0 for each of the marks, place, count and
+ * reported. Nothing waits then. The runs stay as they are.
+ *
+ *   static uint8_t ring[4096], ram_dl[8192], shown[8192], ram_g[65536];
+ *   static const uint8_t words[] = {
+ *       0x00, 0xFF, 0xFF, 0xFF,      DLSTART
+ *       0x00, 0x00, 0xFF, 0x02,      CLEAR_COLOR_RGB   255, 0, 0
+ *       0x07, 0x00, 0x00, 0x26,      CLEAR             1, 1, 1
+ *       0x00, 0x00, 0x00, 0x00,      DISPLAY
+ *       0x01, 0xFF, 0xFF, 0xFF,      SWAP
+ *       0x1C, 0xFF, 0xFF, 0xFF,      MEMZERO, and no parameters yet
+ *   };
+ *   jv_ring a = jv_ring_reset();
+ *   a = jv_ring_write(ring, sizeof ring, words, sizeof words, a.read, a.write, a.offset, a.fault);
+ *       gives { 0, 0, 0, 0, 0, 24, 0, 0 }
+ *   a = jv_ring_run(ring, sizeof ring, ram_dl, sizeof ram_dl, shown, sizeof shown, ram_g, sizeof ram_g, a.read,
+ *                   a.write, a.offset, a.fault);
+ *       gives { 31, 0, 5, 20, 20, 24, 12, 0 }; shown begins with the list of a red screen. The same once more
+ *       gives { 30, 0, 0, 20, 20, 24, 12, 0 }; the host writes MEMZERO's parameters and runs the ring again
+ *
+ * What to do after a run:
+ *
+ *   JV_RING_IDLE      all is done; write the next words
+ *   JV_RING_WAITING   write the parameters that are missing, and run again
+ *   JV_RING_SWAPPED   paint shown, and run again for what waits behind the swap
+ *   where a.fault is not 0   look at a.number and a.place, then reset and write the list's words anew
+ *
+ * If jv_ring_write gives JV_RING_NO_ROOM, run first: that makes room.
+ */
+jv_ring jv_ring_reset(void);
 
 #ifdef __cplusplus
 }

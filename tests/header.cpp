@@ -14,8 +14,17 @@ static_assert(offsetof(jv_bits, bits) == 4, "in order");
 static_assert(sizeof(jv_answer) == 16, "a list's answer is four numbers");
 static_assert(offsetof(jv_answer, list) == 4 && offsetof(jv_answer, place) == 8 && offsetof(jv_answer, count) == 12,
               "in order");
+static_assert(sizeof(jv_marks) == 16, "the ring's marks are four numbers");
+static_assert(offsetof(jv_marks, write) == 4 && offsetof(jv_marks, offset) == 8 && offsetof(jv_marks, fault) == 12,
+              "in order");
+static_assert(sizeof(jv_ring) == 32, "a ring's answer is eight numbers");
+static_assert(offsetof(jv_ring, place) == 4 && offsetof(jv_ring, count) == 8 && offsetof(jv_ring, reported) == 12 &&
+                  offsetof(jv_ring, read) == 16 && offsetof(jv_ring, write) == 20 && offsetof(jv_ring, offset) == 24 &&
+                  offsetof(jv_ring, fault) == 28,
+              "in order");
 static_assert(std::is_standard_layout<jv_word>::value && std::is_standard_layout<jv_bits>::value &&
-                  std::is_standard_layout<jv_answer>::value,
+                  std::is_standard_layout<jv_answer>::value && std::is_standard_layout<jv_marks>::value &&
+                  std::is_standard_layout<jv_ring>::value,
               "as in C");
 
 // The manual's example: a red screen.
@@ -67,6 +76,52 @@ static bool does_repaint_call_answer()
     return is_repainted && is_refused;
 }
 
+static std::uint8_t ring[4096], ram_dl[8192], shown[8192], ram_g[16];
+
+static bool is_ring_answer(const jv_ring &came, const jv_ring &wanted)
+{
+    return std::memcmp(&came, &wanted, sizeof came) == 0;
+}
+
+static jv_ring write_to_ring(const std::uint8_t *words, std::size_t length, const jv_ring &a)
+{
+    return jv_ring_write(ring, sizeof ring, words, length, a.read, a.write, a.offset, a.fault);
+}
+
+static jv_ring run_ring(const jv_ring &a)
+{
+    return jv_ring_run(ring, sizeof ring, ram_dl, sizeof ram_dl, shown, sizeof shown, ram_g, sizeof ram_g, a.read,
+                       a.write, a.offset, a.fault);
+}
+
+// The manual's example: a red screen by way of the ring, then MEMZERO, first without its parameters; a fault, and the
+// reset after it.
+static bool do_ring_calls_answer()
+{
+    const std::uint8_t words[] = { 0x00, 0xFF, 0xFF, 0xFF, 0x00, 0x00, 0xFF, 0x02, 0x07, 0x00, 0x00, 0x26,
+                                   0x00, 0x00, 0x00, 0x00, 0x01, 0xFF, 0xFF, 0xFF, 0x1C, 0xFF, 0xFF, 0xFF };
+    const std::uint8_t parameters[] = { 2, 0, 0, 0, 3, 0, 0, 0 }, unknown[] = { 0x02, 0xFF, 0xFF, 0xFF };
+    const std::uint8_t zeroed[] = { 9, 9, 0, 0, 0, 9, 9, 9, 9, 9, 9, 9, 9, 9, 9, 9 };
+    std::memset(ram_g, 9, sizeof ram_g);
+    jv_ring a = jv_ring_reset();
+    const bool is_reset = is_ring_answer(a, { 0, 0, 0, 0, 0, 0, 0, 0 });
+    a = write_to_ring(words, sizeof words, a);
+    const bool is_written = is_ring_answer(a, { 0, 0, 0, 0, 0, 24, 0, 0 });
+    a = run_ring(a);
+    const bool is_shown =
+        is_ring_answer(a, { JV_RING_SWAPPED, 0, 5, 20, 20, 24, 12, 0 }) && std::memcmp(shown, clear_screen, 12) == 0;
+    a = run_ring(a);
+    const bool is_waiting = is_ring_answer(a, { JV_RING_WAITING, 0, 0, 20, 20, 24, 12, 0 });
+    a = run_ring(write_to_ring(parameters, sizeof parameters, a));
+    const bool is_done = is_ring_answer(a, { JV_RING_IDLE, 0, 1, 32, 32, 32, 12, 0 }) &&
+                         std::memcmp(ram_g, zeroed, sizeof zeroed) == 0;
+    a = run_ring(write_to_ring(unknown, sizeof unknown, a));
+    const bool is_at_fault = is_ring_answer(a, { JV_RING_UNKNOWN, 32, 0, 0xFFF, 32, 36, 12, 1 }) &&
+                             is_ring_answer(run_ring(a), { JV_RING_FAULTY, 0, 0, 0xFFF, 32, 36, 12, 1 });
+    return is_reset && is_written && is_shown && is_waiting && is_done && is_at_fault &&
+           is_ring_answer(run_ring(jv_ring_reset()), { JV_RING_IDLE, 0, 0, 0, 0, 0, 0, 0 });
+}
+
 int main()
 {
     const jv_word read = jv_read_word(0x9B86EFD4);
@@ -83,9 +138,11 @@ int main()
 
     const bool paints = do_paint_calls_answer();
     const bool repaints = does_repaint_call_answer();
+    const bool rings = do_ring_calls_answer();
 
-    std::printf("from C++: reading %s, writing %s, refusing %s, checking %s, painting %s, repainting %s\n",
+    std::printf("from C++: reading %s, writing %s, refusing %s, checking %s, painting %s, repainting %s, the ring %s\n",
                 reads ? "holds" : "FAILS", writes ? "holds" : "FAILS", refuses ? "holds" : "FAILS",
-                checks ? "holds" : "FAILS", paints ? "holds" : "FAILS", repaints ? "holds" : "FAILS");
-    return reads && writes && refuses && checks && paints && repaints ? 0 : 1;
+                checks ? "holds" : "FAILS", paints ? "holds" : "FAILS", repaints ? "holds" : "FAILS",
+                rings ? "holds" : "FAILS");
+    return reads && writes && refuses && checks && paints && repaints && rings ? 0 : 1;
 }

@@ -3,10 +3,8 @@
 #include <stdio.h>
 #include <stdlib.h>
 
+#include "lent.h"
 #include "list_check.h"
-
-/* So many bytes lie before and behind each run. */
-enum { AROUND = 64 };
 
 /* ---- The two programs ---- */
 
@@ -40,27 +38,6 @@ const painter second_program = { "the second program", "the second program's row
 
 /* ---- What is lent ---- */
 
-static uint8_t pattern_byte(size_t n)
-{
-    return (uint8_t)(n * 167 + n / 256 + 91);
-}
-
-static uint8_t *patterned_block(size_t length)
-{
-    uint8_t *block = allocated(length + 2 * AROUND);
-    for (size_t n = 0; n < length + 2 * AROUND; n++)
-        block[n] = pattern_byte(n);
-    return block;
-}
-
-static bool has_pattern(const uint8_t *block, size_t first, size_t past_last)
-{
-    for (size_t n = first; n < past_last; n++)
-        if (block[n] != pattern_byte(n))
-            return false;
-    return true;
-}
-
 lent_runs lend_with_marks(size_t picture_length, size_t tags_length, size_t marks_length)
 {
     lent_runs lent = {
@@ -88,11 +65,6 @@ void take_back(lent_runs *lent)
     free(lent->tags_block);
     free(lent->marks_block);
     *lent = (lent_runs){ .picture = NULL };
-}
-
-static bool is_kept_around(const uint8_t *block, size_t length)
-{
-    return has_pattern(block, 0, AROUND) && has_pattern(block, AROUND + length, AROUND + length + AROUND);
 }
 
 bool is_kept_inside(const lent_runs *lent)
