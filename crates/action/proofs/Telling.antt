@@ -2,9 +2,9 @@
 use mathlib.Core.Path.{_≡_, refl, sym, _∙_, ap}
 use mathlib.Core.Bool.{Bool, true, false, _&&_}
 use Prim.Native.Nat.{ℕ}
-use native.Mathlib.Omega.{arith}
 use lib.Dec.{eqb}
 use borrow.Author.Tests.{eqb-true, eq-eqb}
+use Rattle.truth.proofs.Bools.{both-true, never}
 use Rattle.action.specs.Same.{Tells}
 
 -- no second answer fits
@@ -15,17 +15,13 @@ tells-once {a = false} {b = false} h k = refl
 
 -- what does not hold is told false, and the other way round
 pub tells-no : {P : Type 0} → (P → ⊥) → Tells false P
-tells-no h = record { holds = λ e. let z : _≡_ {A = ℕ} 0 1 = cc in absurd (omega arith); told = λ p. absurd (h p) }
+tells-no h = record { holds = λ e. never e; told = λ p. absurd (h p) }
 
 pub tells-not : {a : Bool} {P : Type 0} → Tells a P → a ≡ false → P → ⊥
-tells-not h n p = let y = h .told p in let z : _≡_ {A = ℕ} 0 1 = cc in omega arith
+tells-not h n p = never (sym n ∙ h .told p)
 
 pub tells-number : (m n : ℕ) → Tells (eqb m n) (m ≡ n)
 tells-number m n = record { holds = eqb-true m n; told = eq-eqb m n }
-
-both-true : (a b : Bool) → a && b ≡ true → (a ≡ true) × (b ≡ true)
-both-true true b e = (refl, e)
-both-true false b e = (e, cc)
 
 -- two values side by side
 infixl 20 _beside_

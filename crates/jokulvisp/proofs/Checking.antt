@@ -1,12 +1,13 @@
 -- The answer of a call on one list: when it is not a refusal, and that no second answer of jv_check fits. Assumes nothing.
-use mathlib.Core.Path.{_≡_, refl, sym, ap, _∙_}
-use mathlib.Core.Bool.{Bool, true, false, false≢true, cond, not, _&&_}
+use mathlib.Core.Path.{_≡_, refl, sym, _∙_}
+use mathlib.Core.Bool.{Bool, true, false, cond, not, _&&_}
 use mathlib.Core.List.{List}
 use Prim.Native.Nat.{ℕ, zero, suc, _≤_, _^_}
 use native.Mathlib.Omega.{arith}
 use lib.Dec.{leb}
 use lib.ListN.{length}
-use borrow.Author.Tests.{leb-true, not-true, not-false}
+use borrow.Author.Tests.{leb-true}
+use Rattle.truth.proofs.Bools.{answered-no, answered-yes, both-alike, both-true}
 use Rattle.engine.specs.declared.run.Ending.{Ending}
 use Rattle.engine.specs.Run.{Ran, run, atStart}
 use Rattle.jokulvisp.specs.declared.check.JvAnswer.{JvAnswer}
@@ -35,10 +36,10 @@ told-drew (suc n) r e = absurd (omega (arith, e))
 
 -- the test for number 1, made with the answer of `is_frame`
 pub no-frame : (answer frame lent : Bool) → answer ≡ frame → not (answer && lent) ≡ true → (frame && lent) ≡ false
-no-frame answer frame lent e h = sym (ap (λ (f : Bool). f && lent) e) ∙ not-true (answer && lent) h
+no-frame answer frame lent e h = answered-no (both-alike e refl) h
 
 pub a-frame : (answer frame lent : Bool) → answer ≡ frame → not (answer && lent) ≡ false → (frame && lent) ≡ true
-a-frame answer frame lent e h = sym (ap (λ (f : Bool). f && lent) e) ∙ not-false (answer && lent) h
+a-frame answer frame lent e h = answered-yes (both-alike e refl) h
 
 -- what is not refused is within its limits
 pub record Admitted (l m w h : ℕ) (lent : Bool) : Type 0 where
@@ -48,17 +49,9 @@ pub record Admitted (l m w h : ℕ) (lent : Bool) : Type 0 where
   pub height : h ≤ 600
   pub runs : lent ≡ true
 
-pub and-left : (a b : Bool) → (a && b) ≡ true → a ≡ true
-and-left true b e = refl
-and-left false b e = e
-
-pub and-right : (a b : Bool) → (a && b) ≡ true → b ≡ true
-and-right true b e = e
-and-right false b e = absurd (false≢true e)
-
 pub list-within : (n : ℕ) → isList n ≡ true → n ≤ 8192
 unfolding isList
-list-within n e = leb-true n 8192 (and-right (leb 4 n) _ (and-left (leb 4 n && leb n 8192) _ e))
+list-within n e = leb-true n 8192 (both-true (leb 4 n) _ (both-true (leb 4 n && leb n 8192) _ e .0) .1)
 
 pub memory-within : (n : ℕ) → isMemory n ≡ true → n ≤ 2 ^ 20
 unfolding isMemory
@@ -66,11 +59,11 @@ memory-within n e = leb-true n 1048576 e
 
 pub width-within : (w h : ℕ) → isFrame w h ≡ true → w ≤ 800
 unfolding isFrame
-width-within w h e = leb-true w 800 (and-right (leb 1 w) _ (and-left (leb 1 w && leb w 800) _ e))
+width-within w h e = leb-true w 800 (both-true (leb 1 w) _ (both-true (leb 1 w && leb w 800) _ e .0) .1)
 
 pub height-within : (w h : ℕ) → isFrame w h ≡ true → h ≤ 600
 unfolding isFrame
-height-within w h e = leb-true h 600 (and-right (leb 1 h) _ (and-right (leb 1 w && leb w 800) _ e))
+height-within w h e = leb-true h 600 (both-true (leb 1 h) _ (both-true (leb 1 w && leb w 800) _ e .1) .1)
 
 -- the tests that it passed
 pub record Passed (l m w h k : ℕ) (lent : Bool) : Type 0 where
@@ -91,7 +84,7 @@ passed list memory width height limit lent = go (isFrame width height && lent) (
         (f l m k : Bool) → (isFrame width height && lent) ≡ f → isList list ≡ l → isMemory memory ≡ m → isLimit limit ≡ k →
         refusal f l m k ≡ 0 → Passed list memory width height limit lent
     go true true true true o p q r e =
-        record { frame = and-left (isFrame width height) lent o; runs = and-right (isFrame width height) lent o; list = p; memory = q; limit = r }
+        record { frame = both-true (isFrame width height) lent o .0; runs = both-true (isFrame width height) lent o .1; list = p; memory = q; limit = r }
     go false l m k o p q r e = absurd (omega arith)
     go true false m k o p q r e = absurd (omega arith)
     go true true false k o p q r e = absurd (omega arith)

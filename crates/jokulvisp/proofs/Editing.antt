@@ -7,6 +7,7 @@ use native.Mathlib.Nat.{zero-add}
 use lib.Dec.{eqb, ltb}
 use lib.ListN.{length, getD, replicate, getD-replicate}
 use borrow.Author.Tests.{eq-eqb, ltb-true}
+use Rattle.truth.proofs.Bools.{both-true}
 use Rattle.paint.proofs.Rows.{colours-long, tags-long}
 use Rattle.paint.proofs.Stacks.{stacked-long, stacked-same}
 use Rattle.paint.specs.Picture.{mended, pixelOf, rowColours, rowTags, stacked}
@@ -19,7 +20,7 @@ use Rattle.jokulvisp.specs.Edits.{HoldsOfEdits}
 use Rattle.jokulvisp.specs.Paint.{isLent, PaintAnswer, PaintRowAnswer, ran}
 use Rattle.jokulvisp.specs.Repaint.{isLentFor, RepaintAnswer}
 use Rattle.jokulvisp.proofs.Agreeing.{lent-right}
-use Rattle.jokulvisp.proofs.Checking.{and-left, and-right, drew}
+use Rattle.jokulvisp.proofs.Checking.{drew}
 use Rattle.jokulvisp.proofs.Painted.{lent-lends, number-of, paints-new}
 use Rattle.jokulvisp.proofs.Repainted.{answer-settled, done-draws, Draws, draws-due}
 
@@ -115,8 +116,8 @@ module _ {old new memory : List ℕ} {width height limit : ℕ} {picture tags ma
     repaint-long : (length picture ≡ height * (3 * width)) × (length tags ≡ height * width)
     repaint-long =
         let runs = isLent width height (length picture) (length tags) in
-        let lent = and-right (isFrame width height) (runs && eqb (length marks) height) (repaint-draws .frame) in
-        lent-lends width height (length picture) (length tags) (and-left runs (eqb (length marks) height) lent)
+        let lent = both-true (isFrame width height) (runs && eqb (length marks) height) (repaint-draws .frame) .1 in
+        lent-lends width height (length picture) (length tags) (both-true runs (eqb (length marks) height) lent .0)
 
 -- THE CLAIM
 pub edits-hold : HoldsOfEdits
@@ -140,7 +141,7 @@ edits-hold = record {
       answer-settled (lent-for width height picture tags marks l m ∙ sym (lent-for width height otherPicture otherTags otherMarks k n)) x;
   nothingMissed = λ old new memory width height limit y lentPicture lentTags oldPicture oldTags oldAnswer o zo otherPicture otherTags newPicture newTags newAnswer n zn picture tags marks answer picture′ tags′ marks′ x z differ.
       let passed = drew old (length memory) width height limit _ (number-of (sym (o .answered)) ∙ zo) .0 in
-      let inside : y < height = ltb-true y height (and-left (ltb y height) _ (passed .runs)) in
+      let inside : y < height = ltb-true y height (both-true (ltb y height) _ (passed .runs) .0) in
       let before = paints-new o zo in
       let after = paints-new n zn in
       mark-on (x .done z .marks .each y inside)

@@ -8,11 +8,12 @@ use native.Mathlib.Omega.{arith}
 use lib.Dec.{eqb, ltb}
 use lib.ListN.{length}
 use borrow.Author.Tests.{eq-eqb, ne-eqb, eqb-true, eqb-false, ltb-true}
+use Rattle.truth.proofs.Bools.{both-true}
 use Rattle.paint.specs.Picture.{stacked, coloursFrom, tagsFrom, rowColours, rowTags}
 use Rattle.jokulvisp.specs.declared.check.JvAnswer.{JvAnswer}
 use Rattle.jokulvisp.specs.Check.{answerOf}
 use Rattle.jokulvisp.specs.Paint.{isLent, leftBy, ran, Paints, Lends, PaintAnswer, PaintRowAnswer, RowsAnswer}
-use Rattle.jokulvisp.proofs.Checking.{and-left, and-right, done}
+use Rattle.jokulvisp.proofs.Checking.{done}
 
 pub number-of : {a b : JvAnswer} → a ≡ b → a .number ≡ b .number
 number-of e = ap (λ (a : JvAnswer). a .number) e
@@ -89,11 +90,11 @@ unfolding isLent
 lent-lends width rows picture tags e =
     let colours = eqb picture (rows * (3 * width)) in
     let tagBytes = eqb tags (rows * width) in
-    (eqb-true picture (rows * (3 * width)) (and-left colours tagBytes e), eqb-true tags (rows * width) (and-right colours tagBytes e))
+    (eqb-true picture (rows * (3 * width)) (both-true colours tagBytes e .0), eqb-true tags (rows * width) (both-true colours tagBytes e .1))
 
 pub row-lends : (answer : Bool) (width height row picture tags : ℕ) → answer ≡ isLent width 1 picture tags → Lends (ltb row height && answer) width height row 1 picture tags
 row-lends answer width height row picture tags h e =
-    (omega (arith, ltb-true row height (and-left (ltb row height) answer e)), lent-lends width 1 picture tags (sym h ∙ and-right (ltb row height) answer e))
+    (omega (arith, ltb-true row height (both-true (ltb row height) answer e .0)), lent-lends width 1 picture tags (sym h ∙ both-true (ltb row height) answer e .1))
 
 pub frame-lends : (answer : Bool) (width height picture tags : ℕ) → answer ≡ isLent width height picture tags → Lends answer width height 0 height picture tags
 frame-lends answer width height picture tags h e = (omega arith, lent-lends width height picture tags (sym h ∙ e))

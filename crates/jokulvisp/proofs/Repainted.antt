@@ -8,6 +8,7 @@ use native.Mathlib.Omega.{arith}
 use lib.Dec.{eqb}
 use lib.ListN.{length}
 use borrow.Author.Tests.{eq-eqb, eqb-false, eqb-true, ne-eqb}
+use Rattle.truth.proofs.Bools.{both-true}
 use Rattle.engine.specs.Run.{Ran, endingOf}
 use Rattle.engine.specs.declared.run.Ending.{Ending}
 use Rattle.paint.specs.Picture.{mended, rowColours, rowTags}
@@ -17,7 +18,7 @@ use Rattle.jokulvisp.specs.declared.check.JvAnswer.{JvAnswer}
 use Rattle.jokulvisp.specs.Check.{isFrame, isLimit, isList, isMemory}
 use Rattle.jokulvisp.specs.Paint.{isLent, ran}
 use Rattle.jokulvisp.specs.Repaint.{isLentFor, refusedFor, RepaintAnswer, repaintDue, repainted, unlessFaulty}
-use Rattle.jokulvisp.proofs.Checking.{and-left, and-right, height-within, list-within, memory-within, width-within}
+use Rattle.jokulvisp.proofs.Checking.{height-within, list-within, memory-within, width-within}
 use Rattle.jokulvisp.proofs.Painted.{Same, lent-lends, number-of}
 
 -- the number is not 0, and the answer the same however many rows are marked
@@ -146,17 +147,17 @@ module _ (old new memory : List ℕ) (width height limit picture tags marks : �
   draws = done-draws old new memory width height limit _ 0 (number-of (sym e) ∙ z)
 
   lends : isLentFor width height picture tags marks ≡ true
-  lends = and-right (isFrame width height) _ (draws .frame)
+  lends = both-true (isFrame width height) _ (draws .frame) .1
 
   marks-long : marks ≡ height
-  marks-long = eqb-true marks height (and-right (isLent width height picture tags) _ lends)
+  marks-long = eqb-true marks height (both-true (isLent width height picture tags) _ lends .1)
 
   pub may-repaint :
       ((length old ≤ 8192) × ((length new ≤ 8192) × (length memory ≤ 2 ^ 20))) ×
       ((marks ≤ 600) × ((width ≤ 800) × ((picture ≡ marks * (3 * width)) × (tags ≡ marks * width))))
   may-repaint =
-      let frame = and-left (isFrame width height) _ (draws .frame) in
-      let runs = lent-lends width height picture tags (and-left (isLent width height picture tags) _ lends) in (
+      let frame = both-true (isFrame width height) _ (draws .frame) .0 in
+      let runs = lent-lends width height picture tags (both-true (isLent width height picture tags) _ lends .0) in (
         (list-within _ (draws .oldList), (list-within _ (draws .newList), memory-within _ (draws .memoryLong))),
         rw marks-long (height-within width height frame, (width-within width height frame, runs)),
       )

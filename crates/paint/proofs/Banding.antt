@@ -8,10 +8,11 @@ use lib.Dec.{leb, ltb}
 use lib.ListN.{length, getD, set, length-set}
 use lib.Seq.{getD-set-same, getD-set-other}
 use borrow.Author.Tests.{le-leb, lt-ltb}
+use Rattle.truth.proofs.Bools.{both-true, never, not-so}
 use Rattle.action.specs.declared.Action.{Action}
 use Rattle.action.specs.declared.shape.Area.{Area}
 use Rattle.pixel.specs.declared.Pixel.{Pixel}
-use Rattle.shape.proofs.Bools.{both-true, between-true, not-so, never}
+use Rattle.shape.proofs.Bools.{between-true}
 use Rattle.shape.specs.Cover.{areaCovers, between, covers, reaches}
 use Rattle.shape.specs.OneRow.{Bounds, larger, smaller}
 use Rattle.shape.specs.declared.Outline.{Outline}

@@ -11,9 +11,9 @@ use lib.Dec.{eqb, ltb}
 use lib.ListN.{length, getD, set, length-set}
 use lib.Seq.{getD-set-same, getD-set-other}
 use borrow.Author.Tests.{eq-eqb, eqb-true, ltb-false, ltb-true}
+use Rattle.truth.proofs.Bools.{not-so}
 use Rattle.engine.specs.declared.run.Find.{Find}
 use Rattle.paint.specs.Picture.{isMarked}
-use Rattle.shape.proofs.Bools.{not-so}
 use Rattle.shape.specs.OneRow.{smaller}
 use Rattle.repaint.specs.Repaint.{marked}
 use Rattle.repaint.specs.Rows.{Stood, Touches, Turns, beside, meetsRow, standing}

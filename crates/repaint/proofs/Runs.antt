@@ -4,12 +4,12 @@ use mathlib.Core.List.{List}
 use mathlib.Core.Path.{_≡_, refl, sym, _∙_, ap, subst}
 use Prim.Native.Nat.{ℕ, _+_, _-_, _<_, _≤_}
 use native.Mathlib.Omega.{arith}
+use Rattle.truth.proofs.Bools.{never}
 use Rattle.engine.specs.Run.{Advances, Ran, Spent, heard, run, then}
 use Rattle.engine.specs.declared.kept.Engine.{Engine}
 use Rattle.engine.specs.declared.run.Advanced.{Advanced}
 use Rattle.engine.specs.declared.run.Find.{Find}
 use Rattle.engine.specs.declared.run.Find.the-variants as f
-use Rattle.shape.proofs.Bools.{never}
 use Rattle.repaint.specs.Rows.{GoesOn, ahead, isDrawn, passed, weight, withRest}
 
 then-actions : (k : ℕ) (find : Find) (rest : Ran) → heard true (then k find rest) .actions ≡ withRest find (rest .actions)

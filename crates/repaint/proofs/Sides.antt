@@ -8,13 +8,13 @@ use native.Mathlib.Omega.{arith}
 use lib.Dec.{eqb, leb, ltb}
 use lib.ListN.{length, getD}
 use borrow.Author.Tests.{eqb-false, eqb-true, le-leb, leb-false, leb-true, lt-ltb, ltb-true}
+use Rattle.truth.proofs.Bools.{both-true, never, not-so}
 use Rattle.action.specs.Same.{Tells}
 use Rattle.action.specs.declared.Action.{Action}
 use Rattle.engine.specs.declared.run.Find.{Find}
 use Rattle.engine.specs.declared.run.Find.the-variants as f
 use Rattle.paint.specs.Actions.{Bands}
 use Rattle.paint.specs.Picture.{outlineOf}
-use Rattle.shape.proofs.Bools.{both-true, never, not-so}
 use Rattle.shape.proofs.Reaching.{row-by-none}
 use Rattle.shape.specs.OneRow.{larger, smaller}
 use Rattle.units.specs.Units.{pixelAt}

@@ -8,6 +8,7 @@ use native.Mathlib.Omega.{arith}
 use lib.Dec.{eqb, leb}
 use lib.ListN.{length}
 use borrow.Author.Tests.{eqb-true, leb-true, ne-eqb}
+use Rattle.truth.proofs.Bools.{both-true, never}
 use Rattle.ring.specs.declared.marks.Marks.{Marks}
 use Rattle.ring.specs.Command.{Runs}
 use Rattle.ring.specs.Flow.{wordsIn, joined, allObeyed, Call, host, coprocessor, Site, after, written, taken, finally, all, waits, Flows}
@@ -16,7 +17,7 @@ use Rattle.ring.specs.Ring.{queue, waiting, arePlaces, isFree}
 use Rattle.ring.specs.Run.{Ran, run, ran, must, stopped}
 use Rattle.ring.proofs.Joining.{host-queue}
 use Rattle.ring.proofs.Numbering.{ran-regular}
-use Rattle.ring.proofs.Places.{never, both-true, placed, waiting-most}
+use Rattle.ring.proofs.Places.{placed, waiting-most}
 use Rattle.ring.proofs.Steps.{isSized}
 use Rattle.ring.proofs.Taking.{run-commands, run-most, run-queue, run-exact, run-empty, run-longer}
 

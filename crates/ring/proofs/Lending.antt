@@ -1,26 +1,14 @@
 -- What commands leave of a run of which they are lent a part, in the words of the definitions. Assumes nothing.
 use mathlib.Core.Path.{_≡_, sym, _∙_, ap}
-use mathlib.Core.Bool.{Bool, true, false, not, _&&_}
 use mathlib.Core.List.{List, [], _++_, append-nil}
 use Prim.Native.Nat.{ℕ, _+_, _-_, _≤_, zero-le}
 use native.Mathlib.Nat.{le-refl, zero-add}
 use native.Mathlib.Omega.{arith}
 use lib.ListN.{length, take, drop, replicate, length-drop, length-replicate, drop-of-length-le}
 use lib.Seq.{drop-drop, take-all}
-use borrow.Author.Tests.{not-true, not-false}
 use Rattle.runs.specs.Runs.{laid, part}
 use Rattle.ring.specs.Host.{laidAround}
 use Rattle.runs.proofs.Laws.{laid-lent, laid-none, lent-part, part-long}
-
--- a range that was found inside RAM_G, and one that was not
-pub found-inside : {answer fits : Bool} → answer ≡ fits → not answer ≡ false → fits ≡ true
-found-inside e h = sym e ∙ not-false _ h
-
-pub found-outside : {answer fits : Bool} → answer ≡ fits → not answer ≡ true → fits ≡ false
-found-outside e h = sym e ∙ not-true _ h
-
-pub both : {a b p q : Bool} → a ≡ p → b ≡ q → (a && b) ≡ (p && q)
-both e f = rw (e, f)
 
 -- a part that was flooded
 pub flooded : (at count b : ℕ) (run new : List ℕ) → at + count ≤ length run → new ≡ replicate (length (take (at + count - at) (drop at run))) b

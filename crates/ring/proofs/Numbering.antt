@@ -1,11 +1,12 @@
 -- Which number, place and marks a run can end with. Assumes nothing.
-use mathlib.Core.Path.{_≡_, refl, sym, ap, _∙_}
+use mathlib.Core.Path.{_≡_, refl, sym, _∙_}
 use mathlib.Core.Bool.{Bool, true, false, cond, _&&_}
 use mathlib.Core.List.{List, [], _∷_}
 use mathlib.Core.Logic.{_⊎_, inl, inr, ⊎-elim}
 use Prim.Native.Nat.{ℕ, zero, suc, _+_, _%_}
 use lib.Dec.{eqb, leb}
 use lib.ListN.{getD, length}
+use Rattle.truth.proofs.Bools.{never}
 use Rattle.runs.specs.Runs.{laid, part}
 use Rattle.ring.specs.declared.command.Command.{Command}
 use Rattle.ring.specs.declared.command.Command.the-variants as c
@@ -16,7 +17,6 @@ use Rattle.ring.specs.Command.{Runs, commandOf, isInside, stored, listed
 use Rattle.ring.specs.Flow.{isOneOf, Regular}
 use Rattle.ring.specs.Ring.{arePlaces, isFree}
 use Rattle.ring.specs.Run.{Ran, stopped, wordsAt, settled, step, run, ran, must}
-use Rattle.ring.proofs.Places.{never}
 use Rattle.ring.proofs.Steps.{isSized, now, step-cases}
 use Rattle.ring.proofs.Taking.{turn-cases}
 

@@ -1,23 +1,17 @@
 -- Places in the ring and what waits between them, as plain arithmetic: the marks that are places, the laws of going around and of waiting, and which marks
 -- stay places. Assumes nothing.
 use mathlib.Core.Path.{_≡_, refl, sym, ap, _∙_}
-use mathlib.Core.Bool.{Bool, true, false, _&&_}
+use mathlib.Core.Bool.{true, _&&_}
 use Prim.Native.Nat.{ℕ, _+_, _*_, _-_, _%_, _≤_, _<_}
 use native.Mathlib.Decide.{decLe}
 use native.Mathlib.Omega.{arith}
 use lib.Dec.{eqb, leb}
 use borrow.Author.Tests.{eqb-true, leb-true, eq-eqb, le-leb}
+use Rattle.truth.proofs.Bools.{both-true}
 use Rattle.ring.specs.declared.marks.Marks.{Marks}
 use Rattle.ring.specs.Host.{written, room}
 use Rattle.ring.specs.Ring.{around, waiting, isPlace, arePlaces}
 use Rattle.ring.specs.Run.{movedOn, faulted}
-
-pub never : {P : Type 0} → false ≡ true → P
-never e = let z : _≡_ {A = ℕ} 0 1 = cc in absurd (omega arith)
-
-pub both-true : (a b : Bool) → a && b ≡ true → (a ≡ true) × (b ≡ true)
-both-true true b e = (refl, e)
-both-true false b e = (e, never e)
 
 -- A PLACE
 pub place : (most at : ℕ) → isPlace most at ≡ true → (at ≤ most) × (at % 4 ≡ 0)

@@ -9,6 +9,7 @@ use native.Mathlib.Omega.{arith}
 use lib.Dec.{eqb, leb, ltb}
 use borrow.Author.Tests.{eqb-true, leb-true, ltb-false, eq-eqb, ne-eqb, le-leb}
 use lib.ListN.{getD, length, replicate, length-append, length-replicate}
+use Rattle.truth.proofs.Bools.{both-true}
 use Rattle.runs.specs.Runs.{bytesOf, laid, part}
 use Rattle.runs.proofs.Laws.{laid-long, part-long}
 use Rattle.ring.specs.declared.command.Command.{Command}
@@ -20,7 +21,7 @@ use Rattle.ring.specs.Command.{Runs, Done, sizeOf, commandOf, isInside, 
 use Rattle.ring.specs.Flow.{joined}
 use Rattle.ring.specs.Ring.{waiting, wordFrom, wordsFrom, each, arePlaces}
 use Rattle.ring.specs.Run.{Ran, stopped, commandAt, wordsAt, settled, step, then, run, areSized, told}
-use Rattle.ring.proofs.Places.{both-true, Placed, placed, arranged, placed-moved, placed-faulted, waiting-moved, waiting-faulted, waiting-most, waiting-some}
+use Rattle.ring.proofs.Places.{Placed, placed, arranged, placed-moved, placed-faulted, waiting-moved, waiting-faulted, waiting-most, waiting-some}
 
 -- THE WORDS OF A COMMAND
 each-long : (f : ℕ → ℕ) (k n : ℕ) → length (each f k n) ≡ n

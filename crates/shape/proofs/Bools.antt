@@ -1,38 +1,13 @@
--- Tests of numbers, and answers made of two. Assumes nothing.
+-- Tests of numbers, and of a number between two others. Assumes nothing.
 use mathlib.Core.Path.{_≡_, refl, sym, _∙_}
-use mathlib.Core.Bool.{Bool, true, false, _&&_}
+use mathlib.Core.Bool.{Bool, true, false}
 use mathlib.Core.Logic.{_⊎_, ⊎-elim}
 use Prim.Native.Nat.{ℕ, _≤_, _<_}
 use native.Mathlib.Omega.{arith}
 use lib.Dec.{leb, ltb}
 use borrow.Author.Tests.{ltb-true, leb-true, leb-false, lt-ltb, le-ltb, le-leb}
+use Rattle.truth.proofs.Bools.{both-made, both-true, not-so}
 use Rattle.shape.specs.Cover.{between}
-
-pub never : {P : Type 0} → false ≡ true → P
-never e = let z : _≡_ {A = ℕ} 0 1 = cc in absurd (omega arith)
-
--- two answers that are true of the same
-pub same-truth : (a b : Bool) → (a ≡ true → b ≡ true) → (b ≡ true → a ≡ true) → a ≡ b
-same-truth true b f g = sym (f refl)
-same-truth false true f g = g refl
-same-truth false false f g = refl
-
-pub not-so : (a : Bool) → (a ≡ true → ⊥) → a ≡ false
-not-so true f = absurd (f refl)
-not-so false f = refl
-
-pub both-true : (a b : Bool) → a && b ≡ true → (a ≡ true) × (b ≡ true)
-both-true true b e = (refl, e)
-both-true false b e = (e, never e)
-
-pub both-made : {a b : Bool} → a ≡ true → b ≡ true → a && b ≡ true
-both-made h k = rw (h, k)
-
--- the first of two answers says no more than the second
-pub and-implied : (a b : Bool) → (b ≡ true → a ≡ true) → a && b ≡ b
-and-implied a true f = rw (f refl)
-and-implied true false f = refl
-and-implied false false f = refl
 
 pub same-tests : (a b c d : ℕ) → (a ≤ b → c < d) → (b < a → d ≤ c) → leb a b ≡ ltb c d
 same-tests a b c d f g = go (leb a b) refl

@@ -1,10 +1,11 @@
 -- Which columns a chord has, by the outline that it is cut from. Assumes nothing.
-use mathlib.Core.Path.{_≡_, refl, sym, _∙_}
+use mathlib.Core.Path.{_≡_, sym, _∙_}
 use mathlib.Core.Bool.{true, false, _&&_, and-true, and-false}
 use Prim.Native.Nat.{ℕ, _+_, _-_, _*_, _/_, _^_, _≤_, _<_}
 use native.Mathlib.Omega.{arith}
 use lib.Dec.{eqb, ltb}
 use borrow.Author.Tests.{lt-ltb, le-ltb, eqb-true}
+use Rattle.truth.proofs.Bools.{and-implied, both-true, never}
 use Rattle.units.specs.declared.Pixels.{Pixels}
 use Rattle.units.specs.declared.Sixteenths.{Sixteenths}
 use Rattle.units.specs.Units.{sampled, spaced, pixelAt}
@@ -16,7 +17,7 @@ use Rattle.shape.specs.declared.Chord.{Chord}
 use Rattle.shape.specs.declared.Rows.{Rows}
 use Rattle.shape.specs.Cover.{within, outside, between, pointCovers, rectangleCovers, areaCovers, covers}
 use Rattle.shape.specs.OneRow.{unsampled, Sampled, nearEnough, holdsIn, hasColumn, Chords, Bounds, squareOf, flatOver, noColumn}
-use Rattle.shape.proofs.Bools.{never, both-true, and-implied, between-true, between-made, between-none}
+use Rattle.shape.proofs.Bools.{between-true, between-made, between-none}
 use Rattle.shape.proofs.Squares.{within-legs, down-too-far, within-left}
 
 -- a chord without columns, and one that has all of its columns

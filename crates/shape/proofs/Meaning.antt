@@ -7,6 +7,7 @@ use lib.IntN.{ℤ, pos, subℕ, _*ℤ_}
 use lib.Signed.{_≤ℤ_, _<ℤ_}
 use lib.Dec.{leb}
 use borrow.Author.Tests.{leb-true, le-leb}
+use Rattle.truth.proofs.Bools.{both-made, both-true}
 use Rattle.units.specs.declared.Pixels.{Pixels}
 use Rattle.units.specs.declared.Sixteenths.{Sixteenths}
 use Rattle.units.specs.Units.{displacement, meantPixels, meantSixteenths, distance, sampled, spaced}
@@ -18,7 +19,6 @@ use Rattle.action.specs.Same.{Tells}
 use Rattle.action.proofs.Telling.{tells-as}
 use Rattle.shape.specs.Cover.{within, outside, between, pointCovers, rectangleCovers, areaCovers}
 use Rattle.shape.specs.Meaning.{nearPlace, NearBox, InOrder, InArea, Meant}
-use Rattle.shape.proofs.Bools.{both-true, both-made}
 use Rattle.shape.proofs.Squares.{square-le}
 use Rattle.shape.proofs.Order.{tells-le, tells-lt, kept-from}
 

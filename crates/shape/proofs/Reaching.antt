@@ -7,6 +7,7 @@ use native.Mathlib.Omega.{arith}
 use native.Mathlib.Nat.{not-suc-le-zero}
 use lib.Dec.{ltb}
 use borrow.Author.Tests.{ltb-true, ltb-false}
+use Rattle.truth.proofs.Bools.{both-made, both-true, never, not-so, same-truth}
 use Rattle.units.specs.declared.Pixels.{Pixels}
 use Rattle.units.specs.Units.{displacement, pixelAt}
 use Rattle.action.specs.declared.shape.Area.{Area}
@@ -15,7 +16,7 @@ use Rattle.shape.specs.declared.Chord.{Chord}
 use Rattle.shape.specs.declared.Rows.{Rows}
 use Rattle.shape.specs.Cover.{between, areaCovers, covers, reaches, reachesRow}
 use Rattle.shape.specs.OneRow.{Sampled, holdsIn, Chords, Reached, Bounds, noColumn, larger, smaller, cutTo}
-use Rattle.shape.proofs.Bools.{never, same-truth, not-so, both-true, both-made, between-true, between-made, between-off}
+use Rattle.shape.proofs.Bools.{between-true, between-made, between-off}
 use Rattle.shape.proofs.Columns.{has-none}
 
 last-or-before : (x n : ℕ) → x < suc n → (x < n) ⊎ (x ≡ n)

@@ -7,9 +7,9 @@ use native.Mathlib.Omega.{arith}
 use borrow.Author.Tests.{eq-eqb, eqb-true, le-leb, lt-leb, ne-eqb, not-false, not-true}
 use Rattle.ring.specs.Host.{put, room}
 use Rattle.ring.specs.Ring.{isFree}
-use Rattle.ring.proofs.Lending.{found-inside, found-outside}
-use Rattle.ring.proofs.Places.{both-true, placed, waiting-most}
+use Rattle.ring.proofs.Places.{placed, waiting-most}
 use borrow.Author.Needs.{needs}
+use Rattle.truth.proofs.Bools.{answered-no, answered-yes, both-true}
 use Rattle.ring.proofs.write.Statement.{statement}
 use Rattle.ring.proofs.write.Tie as tie
 
@@ -34,7 +34,7 @@ unfolding put
 returns-2 c =
     let s = c .before .before .before .before .before .before in
     let whole = eqb (length (s .args .ring .now)) 4096 && eqb (length (s .args .words .now) % 4) 0 in
-    rw (not-false whole (c .before .before .before .if1 .left), found-outside (c .before .before .are-places .ensures) (c .before .if2 .taken)) (record { answered = c .stop2 .ensures; left = refl })
+    rw (not-false whole (c .before .before .before .if1 .left), answered-no (c .before .before .are-places .ensures) (c .before .if2 .taken)) (record { answered = c .stop2 .ensures; left = refl })
 
 stop-requires-3 : tie.Need-stop-requires-3
 stop-requires-3 c κs = search needs
@@ -44,13 +44,13 @@ unfolding put isFree
 returns-3 c =
     let s = c .before .before .before .before .before .before .before .before in
     let whole = eqb (length (s .args .ring .now)) 4096 && eqb (length (s .args .words .now) % 4) 0 in
-    rw (not-false whole (c .before .before .before .before .before .if1 .left), found-inside (c .before .before .before .before .are-places .ensures) (c .before .before .before .if2 .left), ne-eqb _ _ (c .before .if3 .taken)) (record { answered = c .stop3 .ensures; left = refl })
+    rw (not-false whole (c .before .before .before .before .before .if1 .left), answered-yes (c .before .before .before .before .are-places .ensures) (c .before .before .before .if2 .left), ne-eqb _ _ (c .before .if3 .taken)) (record { answered = c .stop3 .ensures; left = refl })
 
 waiting-requires : tie.Need-waiting-requires
-waiting-requires c κs = found-inside (c .before .before .before .are-places .ensures) (c .before .before .if2 .left)
+waiting-requires c κs = answered-yes (c .before .before .before .are-places .ensures) (c .before .before .if2 .left)
 
 sub-if4 : tie.Need-sub-if4
-sub-if4 c = omega (arith, c .waiting .ensures, waiting-most (placed _ (found-inside (c .before .before .before .before .are-places .ensures) (c .before .before .before .if2 .left))))
+sub-if4 c = omega (arith, c .waiting .ensures, waiting-most (placed _ (answered-yes (c .before .before .before .before .are-places .ensures) (c .before .before .before .if2 .left))))
 
 cast-if4 : tie.Need-cast-if4
 cast-if4 c = search needs
@@ -63,13 +63,13 @@ unfolding put isFree room
 returns-4 c =
     let s = c .before .before .before .before .before .before .before .before .before .before in
     let whole = eqb (length (s .args .ring .now)) 4096 && eqb (length (s .args .words .now) % 4) 0 in
-    rw (not-false whole (c .before .before .before .before .before .before .before .if1 .left), found-inside (c .before .before .before .before .before .before .are-places .ensures) (c .before .before .before .before .before .if2 .left), eq-eqb _ _ (c .before .before .before .if3 .left), ← c .before .before .waiting .ensures, lt-leb _ _ (c .before .if4 .taken)) (record { answered = c .stop4 .ensures; left = refl })
+    rw (not-false whole (c .before .before .before .before .before .before .before .if1 .left), answered-yes (c .before .before .before .before .before .before .are-places .ensures) (c .before .before .before .before .before .if2 .left), eq-eqb _ _ (c .before .before .before .if3 .left), ← c .before .before .waiting .ensures, lt-leb _ _ (c .before .if4 .taken)) (record { answered = c .stop4 .ensures; left = refl })
 
 lay-around-requires : tie.Need-lay-around-requires
 lay-around-requires c κs =
     let s = c .before .before .before .before .before .before .before .before .before .before in
     let t = both-true (eqb (length (s .args .ring .now)) 4096) (eqb (length (s .args .words .now) % 4) 0) (not-false (eqb (length (s .args .ring .now)) 4096 && eqb (length (s .args .words .now) % 4) 0) (c .before .before .before .before .before .before .before .if1 .left)) in
-    let p = placed _ (found-inside (c .before .before .before .before .before .before .are-places .ensures) (c .before .before .before .before .before .if2 .left)) in
+    let p = placed _ (answered-yes (c .before .before .before .before .before .before .are-places .ensures) (c .before .before .before .before .before .if2 .left)) in
     (eqb-true _ _ (t .0), (p .write-most, omega (arith, c .before .if4 .left)))
 
 cast-around : tie.Need-cast-around
@@ -77,7 +77,7 @@ cast-around c = search needs
 
 around-requires : tie.Need-around-requires
 around-requires c κs =
-    let p = placed _ (found-inside (c .before .before .before .before .before .before .before .before .before .are-places .ensures) (c .before .before .before .before .before .before .before .before .if2 .left)) in
+    let p = placed _ (answered-yes (c .before .before .before .before .before .before .before .before .before .are-places .ensures) (c .before .before .before .before .before .before .before .before .if2 .left)) in
     (omega (arith, p .write-most), omega (arith, c .before .before .before .before .if4 .left))
 
 stop-requires-5 : tie.Need-stop-requires-5
@@ -91,7 +91,7 @@ unfolding put isFree room
 returns-5 c =
     let s = c .before .before .before .before .before .before .before .before .before .before .before .before .before .before .before in
     let whole = eqb (length (s .args .ring .now)) 4096 && eqb (length (s .args .words .now) % 4) 0 in
-    rw (not-false whole (c .before .before .before .before .before .before .before .before .before .before .before .before .if1 .left), found-inside (c .before .before .before .before .before .before .before .before .before .before .before .are-places .ensures) (c .before .before .before .before .before .before .before .before .before .before .if2 .left), eq-eqb _ _ (c .before .before .before .before .before .before .before .before .if3 .left), ← c .before .before .before .before .before .before .before .waiting .ensures, le-leb _ _ (c .before .before .before .before .before .before .if4 .left)) (record { answered = c .stop5 .ensures ∙ rw (c .before .around .ensures); left = c .before .before .before .before .lay-around .ensures })
+    rw (not-false whole (c .before .before .before .before .before .before .before .before .before .before .before .before .if1 .left), answered-yes (c .before .before .before .before .before .before .before .before .before .before .before .are-places .ensures) (c .before .before .before .before .before .before .before .before .before .before .if2 .left), eq-eqb _ _ (c .before .before .before .before .before .before .before .before .if3 .left), ← c .before .before .before .before .before .before .before .waiting .ensures, le-leb _ _ (c .before .before .before .before .before .before .if4 .left)) (record { answered = c .stop5 .ensures ∙ rw (c .before .around .ensures); left = c .before .before .before .before .lay-around .ensures })
 
 pub write-spec : {M : Type 1} → statement M
 write-spec =

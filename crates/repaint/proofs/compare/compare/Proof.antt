@@ -1,6 +1,6 @@
 use mathlib.Core.Path.{_∙_, sym}
 use borrow.Author.Needs.{needs}
-use Rattle.shape.proofs.Bools.{never}
+use Rattle.truth.proofs.Bools.{never}
 use Rattle.repaint.proofs.Sides.{compare-apart, compare-over, compare-same}
 use Rattle.repaint.proofs.compare.compare.Statement.{statement}
 use Rattle.repaint.proofs.compare.compare.Tie as tie

@@ -1,4 +1,4 @@
-use Rattle.ring.proofs.Lending.{both, copied-part, found-inside, found-outside}
+use Rattle.ring.proofs.Lending.{copied-part}
 use Rattle.ring.proofs.Steps.{inside}
 use mathlib.Core.Path.{ap, refl}
 use mathlib.Core.List.{List}
@@ -7,8 +7,8 @@ use native.Mathlib.Omega.{arith}
 use borrow.Author.Tests.{le-leb, lt-leb}
 use Rattle.runs.proofs.Laws.{part-long}
 use Rattle.ring.specs.Command.{appended, lent, listed, taken}
-use Rattle.ring.proofs.Places.{both-true}
 use borrow.Author.Needs.{needs}
+use Rattle.truth.proofs.Bools.{answered-no, answered-yes, both-alike, both-true}
 use Rattle.ring.proofs.command.append.Statement.{statement}
 use Rattle.ring.proofs.command.append.Tie as tie
 
@@ -17,18 +17,18 @@ is-inside-requires c κs = search needs
 
 returns : tie.Need-returns
 unfolding appended
-returns c = λ shown. rw (found-outside (both (c .before .is-inside .ensures) refl) (c .if1 .taken))
+returns c = λ shown. rw (answered-no (both-alike (c .before .is-inside .ensures) refl) (c .if1 .taken))
 
 add-if2 : tie.Need-add-if2
 add-if2 c =
-    let h = inside _ _ _ (both-true _ _ (found-inside (both (c .before .is-inside .ensures) refl) (c .if1 .left)) .0) in
+    let h = inside _ _ _ (both-true _ _ (answered-yes (both-alike (c .before .is-inside .ensures) refl) (c .if1 .left)) .0) in
     omega (arith, h, c .before .before .before .before .pre)
 
 returns-2 : tie.Need-returns-2
 unfolding appended listed
 returns-2 c =
     let t = c .before in
-    let f = found-inside (both (t .before .is-inside .ensures) refl) (t .if1 .left) in
+    let f = answered-yes (both-alike (t .before .is-inside .ensures) refl) (t .if1 .left) in
     let h = inside _ _ _ (both-true _ _ f .0) in
     λ shown. rw (f, part-long _ _ _ h, lt-leb _ _ (c .if2 .taken))
 
@@ -45,7 +45,7 @@ part-copy-start : tie.Need-part-copy-start
 part-copy-start c = search needs
 
 part-copy-end : tie.Need-part-copy-end
-part-copy-end c = inside _ _ _ (both-true _ _ (found-inside (both (c .before .before .is-inside .ensures) refl) (c .before .if1 .left)) .0)
+part-copy-end c = inside _ _ _ (both-true _ _ (answered-yes (both-alike (c .before .before .is-inside .ensures) refl) (c .before .if1 .left)) .0)
 
 sub-copy-2 : tie.Need-sub-copy-2
 sub-copy-2 c = search needs
@@ -70,7 +70,7 @@ unfolding appended listed
 returns-3 c =
     let t = c .before .before .before .before .before in
     let a = t .before .before .before .before .before .args in
-    let f = found-inside (both (t .before .before .is-inside .ensures) refl) (t .before .if1 .left) in
+    let f = answered-yes (both-alike (t .before .before .is-inside .ensures) refl) (t .before .if1 .left) in
     let h = inside _ _ _ (both-true _ _ f .0) in
     λ shown. rw (f, part-long (a .at) (a .count) (a .memory .now) h, le-leb _ _ (t .if2 .left)) (ap (λ (l : List ℕ). taken (a .offset + a .count) (lent l shown (a .memory .now))) (copied-part (a .offset) (a .count) (a .list .now) (a .at) (a .memory .now) _ (omega (arith, t .if2 .left, t .before .before .before .before .before .pre)) h (c .before .before .copy .ensures .1)))
 

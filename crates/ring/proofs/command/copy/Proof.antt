@@ -1,8 +1,7 @@
 use Rattle.ring.specs.Command.{stored}
-use Rattle.ring.proofs.Lending.{both, found-inside, found-outside}
 use Rattle.ring.proofs.Steps.{inside}
-use Rattle.ring.proofs.Places.{both-true}
 use borrow.Author.Needs.{needs}
+use Rattle.truth.proofs.Bools.{answered-no, answered-yes, both-alike, both-true}
 use Rattle.ring.proofs.command.copy.Statement.{statement}
 use Rattle.ring.proofs.command.copy.Tie as tie
 
@@ -17,12 +16,12 @@ same-length c = search needs
 
 returns : tie.Need-returns
 unfolding stored
-returns c = λ list shown. rw (found-outside (both (c .before .before .before .is-inside .ensures) (c .before .is-inside2 .ensures)) (c .if1 .taken))
+returns c = λ list shown. rw (answered-no (both-alike (c .before .before .before .is-inside .ensures) (c .before .is-inside2 .ensures)) (c .if1 .taken))
 
 shift-requires : tie.Need-shift-requires
 shift-requires c κs =
     let t = c .before in
-    let f = both-true _ _ (found-inside (both (t .before .before .before .is-inside .ensures) (t .before .is-inside2 .ensures)) (t .if1 .left)) in
+    let f = both-true _ _ (answered-yes (both-alike (t .before .before .before .is-inside .ensures) (t .before .is-inside2 .ensures)) (t .if1 .left)) in
     (inside _ _ _ (f .0), inside _ _ _ (f .1))
 
 same-length-2 : tie.Need-same-length-2
@@ -32,7 +31,7 @@ returns-2 : tie.Need-returns-2
 unfolding stored
 returns-2 c =
     let t = c .before .before .before .before in
-    let f = found-inside (both (t .before .before .before .is-inside .ensures) (t .before .is-inside2 .ensures)) (t .if1 .left) in
+    let f = answered-yes (both-alike (t .before .before .before .is-inside .ensures) (t .before .is-inside2 .ensures)) (t .if1 .left) in
     λ list shown. rw (f, c .before .before .shift .ensures)
 
 pub copy-spec : {M : Type 1} → statement M

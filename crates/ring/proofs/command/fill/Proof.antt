@@ -2,9 +2,10 @@ use Prim.Native.Nat.{_%_, _^_, ℕ}
 use mathlib.Core.Path.{ap}
 use mathlib.Core.List.{List}
 use Rattle.ring.specs.Command.{lent, stored, taken}
-use Rattle.ring.proofs.Lending.{found-inside, found-outside, flooded}
+use Rattle.ring.proofs.Lending.{flooded}
 use Rattle.ring.proofs.Steps.{inside}
 use borrow.Author.Needs.{needs}
+use Rattle.truth.proofs.Bools.{answered-no, answered-yes}
 use Rattle.ring.proofs.command.fill.Statement.{statement}
 use Rattle.ring.proofs.command.fill.Tie as tie
 
@@ -16,7 +17,7 @@ same-length c = search needs
 
 returns : tie.Need-returns
 unfolding stored
-returns c = λ list shown. rw (found-outside (c .before .is-inside .ensures) (c .if1 .taken))
+returns c = λ list shown. rw (answered-no (c .before .is-inside .ensures) (c .if1 .taken))
 
 add-end : tie.Need-add-end
 add-end c = search needs
@@ -28,7 +29,7 @@ part-flood-start : tie.Need-part-flood-start
 part-flood-start c = search needs
 
 part-flood-end : tie.Need-part-flood-end
-part-flood-end c = inside _ _ _ (found-inside (c .before .is-inside .ensures) (c .if1 .left))
+part-flood-end c = inside _ _ _ (answered-yes (c .before .is-inside .ensures) (c .if1 .left))
 
 cast-flood : tie.Need-cast-flood
 cast-flood c = search needs
@@ -44,7 +45,7 @@ unfolding stored
 returns-2 c =
     let t = c .before .before .before .before in
     let a = t .before .before .before .before .args in
-    let f = found-inside (t .before .is-inside .ensures) (t .if1 .left) in
+    let f = answered-yes (t .before .is-inside .ensures) (t .if1 .left) in
     λ list shown. rw f (ap (λ (m : List ℕ). taken (a .offset) (lent list shown m)) (flooded (a .at) (a .count) (a .value % 2 ^ 8) (a .memory .now) _ (inside _ _ _ f) (c .before .before .flood .ensures)))
 
 pub fill-spec : {M : Type 1} → statement M
