@@ -1,6 +1,7 @@
 -- One command: its words, and what it does. Document 01, 'The ring': 'Words whose top byte is not FF go to RAM_DL unexamined. Commands: FFFFFF00 DLSTART, 01
 -- SWAP (copies RAM_DL to the shown list, RAM_DL and list offset stay), 32 COLDSTART (no effect yet), 1B MEMSET (address, value's low byte, count), 1C MEMZERO
 -- (address, count), 1D MEMCPY (target, source, count, as if the source were copied first), 1E APPEND (address, count).'
+-- How the list offset moves is the guide's: 5.3, each word written to RAM_DL moves it on, and 5.10, DLSTART sets it to 0; 5.14, APPEND moves it on by its count.
 use mathlib.Core.Bool.{Bool, cond, _&&_}
 use mathlib.Core.List.{List}
 use Prim.Native.Nat.{ℕ, _+_, _/_, _%_, _^_}

@@ -91,6 +91,7 @@ pub record Flows : Type 0 where
   pub inOrder : (calls : List Call) (s : Site) → waits s ++ all written calls s ≡ all taken calls s ++ waits (finally calls s)
   -- What a run leaves of RAM_DL, the shown list and RAM_G is what the commands that it took leave, and nothing besides.
   pub byCommands : (ring : List ℕ) (m : Marks) (x : Runs) → ran ring m x .runs ≡ allObeyed (ran ring m x .commands) (m .offset) x
+  -- Number, place and marks are as the page says, whatever is in the ring.
   pub regular : (ring : List ℕ) (m : Marks) (x : Runs) → Regular m (ran ring m x)
   -- No run takes more than 1,023 commands, and one that was allowed more would take no more.
   pub atMost : (ring : List ℕ) (m : Marks) (x : Runs) → length (ran ring m x .commands) ≤ 1023
