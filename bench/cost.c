@@ -8,7 +8,8 @@
 #include <stdlib.h>
 #include <string.h>
 
-#include "../tests/repainter.h"
+#include "../tests/second/answers.h"
+#include "../tests/second/repainter.h"
 #include "jokulvisp.h"
 #include "lists.h"
 #include "rings.h"
@@ -21,11 +22,6 @@ static uint8_t ram_g[RAM_G_BYTES];
 static uint8_t picture[3 * PIXELS], tags[PIXELS], marks[SCENE_HEIGHT];
 
 typedef jv_answer ask(const repaint_request *request);
-
-static jv_answer as_answer(run_answer a)
-{
-    return (jv_answer){ a.number, 0, a.place, a.count };
-}
 
 static jv_answer have_library_check(const repaint_request *q)
 {
@@ -63,8 +59,7 @@ static jv_answer have_second_program_paint(const repaint_request *q)
 
 static jv_answer have_second_program_repaint(const repaint_request *q)
 {
-    repaint_answer a = repaint_frame(q);
-    return (jv_answer){ a.number, a.list, a.place, a.count };
+    return as_repaint_answer(repaint_frame(q));
 }
 
 static const struct {

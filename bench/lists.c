@@ -2,7 +2,7 @@
 
 #include <string.h>
 
-#include "../tests/list_words.h"
+#include "../tests/shared/list_words.h"
 
 /* ---- Setters ---- */
 

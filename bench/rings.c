@@ -6,8 +6,8 @@
 #include <stdio.h>
 #include <string.h>
 
-#include "../tests/ring_words.h"
-#include "../tests/ringer.h"
+#include "../tests/second/ringer.h"
+#include "../tests/shared/ring_words.h"
 #include "jokulvisp.h"
 
 enum { RING_BYTES = 4096, LIST_BYTES = 8192, RAM_G_BYTES = 65536, MOST_WORDS = 1023, TIMES_MANY_BYTES = 4 };

@@ -3,7 +3,7 @@
 #include <stdbool.h>
 #include <string.h>
 
-#include "../tests/list_words.h"
+#include "../tests/shared/list_words.h"
 
 /* A list being written, with its edit. */
 typedef struct {
