@@ -4,11 +4,9 @@
 
 #include <stdio.h>
 
-#include "input.h"
-#include "jokulvisp.h"
-#include "order.h"
+#include "reason.h"
 
-/* Prints the answer as one line, and on standard error what is wrong if something is. Gives the exit status. */
-int tell_answer(FILE *out, const order *o, const run_input *input, jv_answer answer);
+/* Prints the answer: its number, what that means, and the word at fault if there is one. Gives the exit status. */
+int tell_answer(FILE *out, const finished_run *run);
 
 #endif

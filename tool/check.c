@@ -1,20 +1,23 @@
 #include "check.h"
 
-#include <stdio.h>
-
 #include "answer.h"
 #include "input.h"
 #include "jokulvisp.h"
-#include "order.h"
 #include "usage.h"
 
-int run_check(int count, char **arguments)
+finished_run check_list(const order *o, const run_input *input)
 {
-    static run_input input;
-    order o;
-    if (!read_order(&o, "check", count, arguments) || !read_input(&input, &o))
+    const display_list *list = &input->lists[0];
+    jv_answer answer =
+        jv_check(list->bytes, held_bytes(list), input->ram_g, held_ram_g(input), o->width, o->height, o->limit);
+    return (finished_run){ o, input, list, answer };
+}
+
+int run_check(const order *o)
+{
+    const run_input *input = read_input(o);
+    if (input == NULL)
         return GAVE_UP;
-    jv_answer answer = jv_check(input.list.bytes, held_bytes(&input.list), input.ram_g, held_ram_g(&input), o.width,
-                                o.height, o.limit);
-    return tell_answer(stdout, &o, &input, answer);
+    finished_run run = check_list(o, input);
+    return tell_answer(stdout, &run);
 }

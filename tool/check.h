@@ -2,7 +2,13 @@
 #ifndef CHECK_H
 #define CHECK_H
 
-/* Takes the arguments after the command's name. Gives the exit status. */
-int run_check(int count, char **arguments);
+#include "order.h"
+#include "reason.h"
+
+/* Gives the exit status. */
+int run_check(const order *o);
+
+/* What jv_check says of the first list. */
+finished_run check_list(const order *o, const run_input *input);
 
 #endif

@@ -2,7 +2,9 @@
 #ifndef DRAW_H
 #define DRAW_H
 
-/* Takes the arguments after the command's name. Gives the exit status. */
-int run_draw(int count, char **arguments);
+#include "order.h"
+
+/* Gives the exit status. */
+int run_draw(const order *o);
 
 #endif

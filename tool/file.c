@@ -1,7 +1,6 @@
 #include "file.h"
 
 #include <errno.h>
-#include <stdio.h>
 #include <string.h>
 
 bool is_standard(const char *name)
@@ -9,9 +8,14 @@ bool is_standard(const char *name)
     return strcmp(name, "-") == 0;
 }
 
+const char *shown_name(const char *name)
+{
+    return name[0] != '\0' ? name : "''";
+}
+
 const char *spoken_name(const char *name)
 {
-    return is_standard(name) ? "standard input" : name;
+    return is_standard(name) ? "standard input" : shown_name(name);
 }
 
 static void complain(const char *name, const char *why)
@@ -57,8 +61,8 @@ bool read_file(const char *name, uint8_t *bytes, size_t room, size_t *length)
     return was_read;
 }
 
-void complain_of_length(const char *name, size_t length, const char *allowed)
+void print_length(FILE *out, size_t length, const char *allowed)
 {
     const char *at_least = length < MOST_COUNTED_BYTES ? "" : "at least ";
-    fprintf(stderr, "jokulvisp: %s: %s%zu bytes long; %s\n", spoken_name(name), at_least, length, allowed);
+    fprintf(out, " is %s%zu bytes long; %s.", at_least, length, allowed);
 }

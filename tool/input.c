@@ -2,14 +2,27 @@
 
 #include "file.h"
 
-bool read_input(run_input *input, const order *o)
+static run_input input;
+
+static bool read_lists(const order *o)
 {
-    input->ram_g_length = 0;
-    return read_list(&input->list, o->list) &&
-           (o->ram_g == NULL || read_file(o->ram_g, input->ram_g, sizeof input->ram_g, &input->ram_g_length));
+    for (int n = 0; n < o->command->files; n++)
+        if (!read_list(&input.lists[n], o->files[n]))
+            return false;
+    return true;
 }
 
-size_t held_ram_g(const run_input *input)
+static bool read_ram_g(const order *o)
 {
-    return input->ram_g_length < sizeof input->ram_g ? input->ram_g_length : sizeof input->ram_g;
+    return o->ram_g == NULL || read_file(o->ram_g, input.ram_g, sizeof input.ram_g, &input.ram_g_length);
+}
+
+const run_input *read_input(const order *o)
+{
+    return read_lists(o) && read_ram_g(o) ? &input : NULL;
+}
+
+size_t held_ram_g(const run_input *in)
+{
+    return in->ram_g_length < sizeof in->ram_g ? in->ram_g_length : sizeof in->ram_g;
 }

@@ -1,4 +1,4 @@
-/* What a run takes: the bytes of a list and of RAM_G. */
+/* What a run takes: the bytes of one list or two, and of RAM_G. */
 #ifndef INPUT_H
 #define INPUT_H
 
@@ -13,13 +13,13 @@ enum { MOST_RAM_G_BYTES = 1048576 };
 
 /* There is room for one byte too many in RAM_G, as in a list. */
 typedef struct {
-    display_list list;
+    display_list lists[MOST_FILES];
     uint8_t ram_g[MOST_RAM_G_BYTES + 1];
     size_t ram_g_length; /* of the file, of which `ram_g` holds the beginning */
 } run_input;
 
-/* Reads both files, whatever their lengths. If that is not possible, says so on standard error and gives false. */
-bool read_input(run_input *input, const order *o);
+/* Reads all files, whatever their lengths. If that is not possible, says so on standard error and gives NULL. */
+const run_input *read_input(const order *o);
 
 /* How many of the file's bytes `ram_g` holds. */
 size_t held_ram_g(const run_input *input);

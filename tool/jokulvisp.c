@@ -4,35 +4,35 @@
 #include <stdio.h>
 #include <string.h>
 
-#include "check.h"
-#include "draw.h"
-#include "list.h"
+#include "command.h"
+#include "order.h"
 #include "usage.h"
-#include "words.h"
 
-static int run_words(int count, char **arguments)
+static int run_command(const command *c, int count, char **arguments)
 {
-    if (count != 1)
-        return explain_usage("words", "takes one list");
-    static display_list list;
-    if (!read_list(&list, arguments[0]))
+    order o;
+    if (!read_order(&o, c, count, arguments))
         return GAVE_UP;
-    return has_list_length(&list, arguments[0]) && print_words(&list) ? SUCCEEDED : LIST_AT_FAULT;
+    return o.wants_help ? print_help_of(c) : c->run(&o);
+}
+
+static int run_alone(const char *option, int count)
+{
+    bool is_help = strcmp(option, "--help") == 0 || strcmp(option, "-h") == 0;
+    bool is_version = strcmp(option, "--version") == 0;
+    if (!is_help && !is_version)
+        return explain_usage(NULL, option, option[0] == '-' ? "a command has to come first" : "no such command");
+    if (count > 1)
+        return explain_usage(NULL, option, "nothing can follow");
+    return is_help ? print_help() : print_version();
 }
 
 static int run(int count, char **arguments)
 {
     if (count < 1)
-        return explain_usage("command line", "no command given");
-    if (strcmp(arguments[0], "--help") == 0)
-        return print_help();
-    if (strcmp(arguments[0], "words") == 0)
-        return run_words(count - 1, arguments + 1);
-    if (strcmp(arguments[0], "check") == 0)
-        return run_check(count - 1, arguments + 1);
-    if (strcmp(arguments[0], "draw") == 0)
-        return run_draw(count - 1, arguments + 1);
-    return explain_usage(arguments[0], "no such command");
+        return explain_usage(NULL, NULL, "no command given");
+    const command *c = find_command(arguments[0]);
+    return c != NULL ? run_command(c, count, arguments) : run_alone(arguments[0], count);
 }
 
 /* Output is buffered, so a full disk may show only here. */

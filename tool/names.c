@@ -1,7 +1,5 @@
 #include "names.h"
 
-#include <stddef.h>
-
 #include "jokulvisp.h"
 
 static const char *const test_names[] = {
@@ -43,76 +41,136 @@ static const value_set wraps = NAMED("wrap mode", wrap_names);
 static const value_set fractions = { "vertex format", NULL, 4 };
 static const value_set scissors = { "scissor", NULL, 2048 };
 
-#define NUMBER(name) { name, false, NULL, 0, 0 }
-#define SIGNED(name) { name, true, NULL, 0, 0 }
-#define VALUE(name, values, high, low) { name, false, &(values), high, low }
+#define NUMBER(name, high, low) { name, high, low, UNSIGNED, NULL }
+#define INTEGER(name, high, low) { name, high, low, SIGNED, NULL }
+#define PLACE(name, high, low) { name, high, low, TARGET, NULL }
+#define VALUE(name, high, low, values) { name, high, low, UNSIGNED, &(values) }
 
 static const command_names commands[] = {
     { "DISPLAY", JV_DISPLAY, { { 0 } } },
-    { "BITMAP_SOURCE", JV_BITMAP_SOURCE, { NUMBER("addr") } },
-    { "CLEAR_COLOR_RGB", JV_CLEAR_COLOR_RGB, { NUMBER("red"), NUMBER("green"), NUMBER("blue") } },
-    { "TAG", JV_TAG, { NUMBER("s") } },
-    { "COLOR_RGB", JV_COLOR_RGB, { NUMBER("red"), NUMBER("green"), NUMBER("blue") } },
-    { "BITMAP_HANDLE", JV_BITMAP_HANDLE, { NUMBER("handle") } },
-    { "CELL", JV_CELL, { NUMBER("cell") } },
-    { "BITMAP_LAYOUT", JV_BITMAP_LAYOUT, { VALUE("format", formats, 23, 19), NUMBER("linestride"), NUMBER("height") } },
-    { "BITMAP_SIZE", JV_BITMAP_SIZE, { VALUE("filter", filters, 20, 20), VALUE("wrapx", wraps, 19, 19),
-                                       VALUE("wrapy", wraps, 18, 18), NUMBER("width"), NUMBER("height") } },
-    { "ALPHA_FUNC", JV_ALPHA_FUNC, { VALUE("func", tests, 10, 8), NUMBER("ref") } },
-    { "STENCIL_FUNC", JV_STENCIL_FUNC, { VALUE("func", tests, 19, 16), NUMBER("ref"), NUMBER("mask") } },
-    { "BLEND_FUNC", JV_BLEND_FUNC, { VALUE("src", factors, 5, 3), VALUE("dst", factors, 2, 0) } },
-    { "STENCIL_OP", JV_STENCIL_OP, { VALUE("sfail", actions, 5, 3), VALUE("spass", actions, 2, 0) } },
-    { "POINT_SIZE", JV_POINT_SIZE, { NUMBER("size") } },
-    { "LINE_WIDTH", JV_LINE_WIDTH, { NUMBER("width") } },
-    { "CLEAR_COLOR_A", JV_CLEAR_COLOR_A, { NUMBER("alpha") } },
-    { "COLOR_A", JV_COLOR_A, { NUMBER("alpha") } },
-    { "CLEAR_STENCIL", JV_CLEAR_STENCIL, { NUMBER("s") } },
-    { "CLEAR_TAG", JV_CLEAR_TAG, { NUMBER("t") } },
-    { "STENCIL_MASK", JV_STENCIL_MASK, { NUMBER("mask") } },
-    { "TAG_MASK", JV_TAG_MASK, { NUMBER("mask") } },
-    { "BITMAP_TRANSFORM_A", JV_BITMAP_TRANSFORM_A, { SIGNED("a") } },
-    { "BITMAP_TRANSFORM_B", JV_BITMAP_TRANSFORM_B, { SIGNED("b") } },
-    { "BITMAP_TRANSFORM_C", JV_BITMAP_TRANSFORM_C, { SIGNED("c") } },
-    { "BITMAP_TRANSFORM_D", JV_BITMAP_TRANSFORM_D, { SIGNED("d") } },
-    { "BITMAP_TRANSFORM_E", JV_BITMAP_TRANSFORM_E, { SIGNED("e") } },
-    { "BITMAP_TRANSFORM_F", JV_BITMAP_TRANSFORM_F, { SIGNED("f") } },
-    { "SCISSOR_XY", JV_SCISSOR_XY, { NUMBER("x"), NUMBER("y") } },
-    { "SCISSOR_SIZE", JV_SCISSOR_SIZE, { VALUE("width", scissors, 23, 12), VALUE("height", scissors, 11, 0) } },
-    { "CALL", JV_CALL, { NUMBER("dest") } },
-    { "JUMP", JV_JUMP, { NUMBER("dest") } },
-    { "BEGIN", JV_BEGIN, { VALUE("prim", primitives, 3, 0) } },
-    { "COLOR_MASK", JV_COLOR_MASK, { NUMBER("r"), NUMBER("g"), NUMBER("b"), NUMBER("a") } },
+    { "BITMAP_SOURCE", JV_BITMAP_SOURCE, { NUMBER("addr", 21, 0) } },
+    { "CLEAR_COLOR_RGB", JV_CLEAR_COLOR_RGB, { NUMBER("red", 23, 16), NUMBER("green", 15, 8), NUMBER("blue", 7, 0) } },
+    { "TAG", JV_TAG, { NUMBER("s", 7, 0) } },
+    { "COLOR_RGB", JV_COLOR_RGB, { NUMBER("red", 23, 16), NUMBER("green", 15, 8), NUMBER("blue", 7, 0) } },
+    { "BITMAP_HANDLE", JV_BITMAP_HANDLE, { NUMBER("handle", 4, 0) } },
+    { "CELL", JV_CELL, { NUMBER("cell", 6, 0) } },
+    { "BITMAP_LAYOUT", JV_BITMAP_LAYOUT, { VALUE("format", 23, 19, formats), NUMBER("linestride", 18, 9),
+                                           NUMBER("height", 8, 0) } },
+    { "BITMAP_SIZE", JV_BITMAP_SIZE, { VALUE("filter", 20, 20, filters), VALUE("wrapx", 19, 19, wraps),
+                                       VALUE("wrapy", 18, 18, wraps), NUMBER("width", 17, 9),
+                                       NUMBER("height", 8, 0) } },
+    { "ALPHA_FUNC", JV_ALPHA_FUNC, { VALUE("func", 10, 8, tests), NUMBER("ref", 7, 0) } },
+    { "STENCIL_FUNC", JV_STENCIL_FUNC, { VALUE("func", 19, 16, tests), NUMBER("ref", 15, 8), NUMBER("mask", 7, 0) } },
+    { "BLEND_FUNC", JV_BLEND_FUNC, { VALUE("src", 5, 3, factors), VALUE("dst", 2, 0, factors) } },
+    { "STENCIL_OP", JV_STENCIL_OP, { VALUE("sfail", 5, 3, actions), VALUE("spass", 2, 0, actions) } },
+    { "POINT_SIZE", JV_POINT_SIZE, { NUMBER("size", 12, 0) } },
+    { "LINE_WIDTH", JV_LINE_WIDTH, { NUMBER("width", 11, 0) } },
+    { "CLEAR_COLOR_A", JV_CLEAR_COLOR_A, { NUMBER("alpha", 7, 0) } },
+    { "COLOR_A", JV_COLOR_A, { NUMBER("alpha", 7, 0) } },
+    { "CLEAR_STENCIL", JV_CLEAR_STENCIL, { NUMBER("s", 7, 0) } },
+    { "CLEAR_TAG", JV_CLEAR_TAG, { NUMBER("t", 7, 0) } },
+    { "STENCIL_MASK", JV_STENCIL_MASK, { NUMBER("mask", 7, 0) } },
+    { "TAG_MASK", JV_TAG_MASK, { NUMBER("mask", 0, 0) } },
+    { "BITMAP_TRANSFORM_A", JV_BITMAP_TRANSFORM_A, { INTEGER("a", 16, 0) } },
+    { "BITMAP_TRANSFORM_B", JV_BITMAP_TRANSFORM_B, { INTEGER("b", 16, 0) } },
+    { "BITMAP_TRANSFORM_C", JV_BITMAP_TRANSFORM_C, { INTEGER("c", 23, 0) } },
+    { "BITMAP_TRANSFORM_D", JV_BITMAP_TRANSFORM_D, { INTEGER("d", 16, 0) } },
+    { "BITMAP_TRANSFORM_E", JV_BITMAP_TRANSFORM_E, { INTEGER("e", 16, 0) } },
+    { "BITMAP_TRANSFORM_F", JV_BITMAP_TRANSFORM_F, { INTEGER("f", 23, 0) } },
+    { "SCISSOR_XY", JV_SCISSOR_XY, { NUMBER("x", 21, 11), NUMBER("y", 10, 0) } },
+    { "SCISSOR_SIZE", JV_SCISSOR_SIZE, { VALUE("width", 23, 12, scissors), VALUE("height", 11, 0, scissors) } },
+    { "CALL", JV_CALL, { PLACE("dest", 15, 0) } },
+    { "JUMP", JV_JUMP, { PLACE("dest", 15, 0) } },
+    { "BEGIN", JV_BEGIN, { VALUE("prim", 3, 0, primitives) } },
+    { "COLOR_MASK", JV_COLOR_MASK, { NUMBER("r", 3, 3), NUMBER("g", 2, 2), NUMBER("b", 1, 1), NUMBER("a", 0, 0) } },
     { "END", JV_END, { { 0 } } },
     { "SAVE_CONTEXT", JV_SAVE_CONTEXT, { { 0 } } },
     { "RESTORE_CONTEXT", JV_RESTORE_CONTEXT, { { 0 } } },
     { "RETURN", JV_RETURN, { { 0 } } },
-    { "MACRO", JV_MACRO, { NUMBER("m") } },
-    { "CLEAR", JV_CLEAR, { NUMBER("c"), NUMBER("s"), NUMBER("t") } },
-    { "VERTEX_FORMAT", JV_VERTEX_FORMAT, { VALUE("frac", fractions, 2, 0) } },
-    { "BITMAP_LAYOUT_H", JV_BITMAP_LAYOUT_H, { NUMBER("linestride"), NUMBER("height") } },
-    { "BITMAP_SIZE_H", JV_BITMAP_SIZE_H, { NUMBER("width"), NUMBER("height") } },
-    { "PALETTE_SOURCE", JV_PALETTE_SOURCE, { NUMBER("addr") } },
-    { "VERTEX_TRANSLATE_X", JV_VERTEX_TRANSLATE_X, { SIGNED("x") } },
-    { "VERTEX_TRANSLATE_Y", JV_VERTEX_TRANSLATE_Y, { SIGNED("y") } },
+    { "MACRO", JV_MACRO, { NUMBER("m", 0, 0) } },
+    { "CLEAR", JV_CLEAR, { NUMBER("c", 2, 2), NUMBER("s", 1, 1), NUMBER("t", 0, 0) } },
+    { "VERTEX_FORMAT", JV_VERTEX_FORMAT, { VALUE("frac", 2, 0, fractions) } },
+    { "BITMAP_LAYOUT_H", JV_BITMAP_LAYOUT_H, { NUMBER("linestride", 3, 2), NUMBER("height", 1, 0) } },
+    { "BITMAP_SIZE_H", JV_BITMAP_SIZE_H, { NUMBER("width", 3, 2), NUMBER("height", 1, 0) } },
+    { "PALETTE_SOURCE", JV_PALETTE_SOURCE, { NUMBER("addr", 21, 0) } },
+    { "VERTEX_TRANSLATE_X", JV_VERTEX_TRANSLATE_X, { INTEGER("x", 16, 0) } },
+    { "VERTEX_TRANSLATE_Y", JV_VERTEX_TRANSLATE_Y, { INTEGER("y", 16, 0) } },
     { "NOP", JV_NOP, { { 0 } } },
-    { "VERTEX2F", JV_VERTEX2F, { SIGNED("x"), SIGNED("y") } },
-    { "VERTEX2II", JV_VERTEX2II, { NUMBER("x"), NUMBER("y"), NUMBER("handle"), NUMBER("cell") } },
+    { "VERTEX2F", JV_VERTEX2F, { INTEGER("x", 29, 15), INTEGER("y", 14, 0) } },
+    { "VERTEX2II", JV_VERTEX2II, { NUMBER("x", 29, 21), NUMBER("y", 20, 12), NUMBER("handle", 11, 7),
+                                   NUMBER("cell", 6, 0) } },
 };
+
+const command_names any_word = { "WORD", 0, { NUMBER("bits", 31, 0) } };
+
+const command_names *names_at(size_t n)
+{
+    return n < sizeof commands / sizeof commands[0] ? &commands[n] : NULL;
+}
 
 const command_names *find_names(uint32_t command)
 {
-    for (size_t n = 0; n < sizeof commands / sizeof commands[0]; n++)
+    for (size_t n = 0; names_at(n) != NULL; n++)
         if (commands[n].command == command)
             return &commands[n];
     return NULL;
 }
 
-const char *find_value_name(const value_set *values, uint32_t value)
+uint32_t command_in(uint32_t bits)
 {
-    return values->names != NULL && value <= values->most ? values->names[value] : NULL;
+    uint32_t top_two = bits >> 30;
+    return top_two == 1 || top_two == 2 ? top_two << 6 : bits >> 24;
 }
 
-bool has_meaning(const value_set *values, uint32_t value)
+uint32_t command_mask(const command_names *names)
 {
-    return values->names == NULL ? value <= values->most : find_value_name(values, value) != NULL;
+    return names->command == JV_VERTEX2F || names->command == JV_VERTEX2II ? 0xC0000000 : 0xFF000000;
+}
+
+unsigned count_fields(const command_names *names)
+{
+    unsigned count = 0;
+    while (count < MOST_FIELDS && names->field[count].name != NULL)
+        count++;
+    return count;
+}
+
+/* As many ones as the field has bits, or so many fewer. */
+static uint32_t ones(const field_names *field, unsigned fewer)
+{
+    return UINT32_MAX >> (31 - (field->high - field->low) + fewer);
+}
+
+uint32_t mask_of(const field_names *field)
+{
+    return ones(field, 0) << field->low;
+}
+
+uint32_t value_in(uint32_t bits, const field_names *field)
+{
+    return bits >> field->low & ones(field, 0);
+}
+
+int64_t least_value(const field_names *field)
+{
+    return field->kind == SIGNED ? -(int64_t)ones(field, 1) - 1 : 0;
+}
+
+int64_t largest_value(const field_names *field)
+{
+    return ones(field, field->kind == SIGNED ? 1 : 0);
+}
+
+const char *find_value_name(const field_names *field, uint32_t value)
+{
+    const value_set *values = field->values;
+    return values != NULL && values->names != NULL && value <= values->most ? values->names[value] : NULL;
+}
+
+bool has_meaning(const field_names *field, uint32_t value)
+{
+    const value_set *values = field->values;
+    if (values == NULL)
+        return true;
+    return values->names != NULL ? find_value_name(field, value) != NULL : value <= values->most;
 }

@@ -1,19 +1,29 @@
-/* What the command line asks of a list: where it lies, and how it is to be run. The commands `check` and `draw` share
-   this. */
+/* What the command line asks for. */
 #ifndef ORDER_H
 #define ORDER_H
 
 #include <stdbool.h>
 #include <stdint.h>
+#include <stdio.h>
 
-typedef struct {
-    const char *command;
-    const char *list, *ram_g; /* file names; RAM_G's is NULL where none is given */
+#include "command.h"
+
+enum { MOST_FILES = 2 };
+
+struct order {
+    const command *command;
+    bool wants_help;               /* the command's help, and nothing else of what follows */
+    const char *files[MOST_FILES]; /* to read, as many as the command takes; '-' is standard input here and in ram_g */
+    const char *ram_g;             /* to read; NULL where none is given, as below */
     uint32_t width, height, limit;
-    const char *picture, *tags; /* files to write, for `draw` alone; the tags' is NULL where none is given */
-} order;
+    const char *output, *tags, *marks; /* to write; '-' is standard output */
+};
 
-/* Reads the arguments after the command's name. Where they are wrong, says why on standard error and gives false. */
-bool read_order(order *o, const char *command, int count, char **arguments);
+/* Reads the arguments, of which the first is the command's name. Where they are wrong, says why on standard error and
+   gives false. */
+bool read_order(order *o, const command *c, int count, char **arguments);
+
+/* Standard output, or standard error where a file goes to standard output. */
+FILE *stream_for_answers(const order *o);
 
 #endif

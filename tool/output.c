@@ -1,32 +1,45 @@
-/* For stat. */
+/* For fileno and fsync. */
 #define _POSIX_C_SOURCE 200809L
 
 #include "output.h"
 
 #include <errno.h>
 #include <string.h>
-#include <sys/stat.h>
+#include <unistd.h>
 
 #include "file.h"
 
+/* Names beside a place that are tried before it is given up. */
+enum { MOST_TRIES = 100 };
+
 static void complain(const char *name, int error)
 {
-    fprintf(stderr, "jokulvisp: %s: %s\n", is_standard(name) ? "standard output" : name, strerror(error));
+    fprintf(stderr, "jokulvisp: %s: %s\n", is_standard(name) ? "standard output" : shown_name(name), strerror(error));
 }
 
-/* A place that is free or taken by an ordinary file. Another kind of thing is written to, not replaced. */
-static bool is_ordinary(const char *name)
+static bool open_as(output_file *file, const char *name, const char *mode)
 {
-    struct stat found;
-    return stat(name, &found) != 0 || S_ISREG(found.st_mode);
-}
-
-static bool open_named(output_file *file, const char *name)
-{
-    file->stream = fopen(name, "wb");
-    if (file->stream == NULL)
-        complain(file->name, errno);
+    file->stream = fopen(name, mode);
     return file->stream != NULL;
+}
+
+/* The first name beside the place that no file has yet, for it may be someone else's. */
+static bool open_beside(output_file *file)
+{
+    bool is_open = false;
+    errno = EEXIST;
+    for (int n = 1; !is_open && errno == EEXIST && n <= MOST_TRIES; n++) {
+        int length = snprintf(file->beside, sizeof file->beside, "%s.%d.part", file->place, n);
+        errno = ENAMETOOLONG;
+        is_open = 0 <= length && (size_t)length < sizeof file->beside && open_as(file, file->beside, "wbx");
+    }
+    return is_open;
+}
+
+/* A file can be renamed over another that may not be written, so that is asked before. */
+static bool open_for_place(output_file *file)
+{
+    return find_place(file->name, file->place) && !is_protected(file->place) && open_beside(file);
 }
 
 bool open_output(output_file *file, const char *name)
@@ -35,14 +48,10 @@ bool open_output(output_file *file, const char *name)
     if (is_standard(name))
         return true;
     file->is_beside = is_ordinary(name);
-    if (!file->is_beside)
-        return open_named(file, name);
-    int length = snprintf(file->beside, sizeof file->beside, "%s.part", name);
-    if (length < 0 || (size_t)length >= sizeof file->beside) {
-        complain(name, ENAMETOOLONG);
-        return false;
-    }
-    return open_named(file, file->beside);
+    if (file->is_beside ? open_for_place(file) : open_as(file, name, "wb"))
+        return true;
+    complain(name, errno);
+    return false;
 }
 
 /* Keeps the first reason. */
@@ -58,11 +67,13 @@ void put_bytes(output_file *file, const void *bytes, size_t length)
     note_failure(file, fwrite(bytes, 1, length, file->stream) != length);
 }
 
-/* Output is buffered, so a full disk may show only here. */
+/* Output is buffered, so a full disk may show only here. What is to take the place of another file has to be on the
+   disk before it does. */
 static bool is_written(output_file *file)
 {
     errno = 0;
     note_failure(file, fflush(file->stream) != 0);
+    note_failure(file, file->is_beside && fsync(fileno(file->stream)) != 0);
     if (file->stream != stdout)
         note_failure(file, fclose(file->stream) != 0);
     if (file->error != 0)
@@ -72,7 +83,7 @@ static bool is_written(output_file *file)
 
 static bool take_place(const output_file *file)
 {
-    if (!file->is_beside || rename(file->beside, file->name) == 0)
+    if (!file->is_beside || rename(file->beside, file->place) == 0)
         return true;
     complain(file->name, errno);
     return false;

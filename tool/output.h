@@ -6,14 +6,15 @@
 #include <stddef.h>
 #include <stdio.h>
 
-enum { MOST_NAME = 4096 };
+#include "place.h"
 
 typedef struct {
     const char *name;
     FILE *stream;
-    int error;              /* why a byte could not be written; 0 as long as all could */
-    bool is_beside;         /* not so for standard output and for devices, which are written where they are */
-    char beside[MOST_NAME]; /* the name that it has meanwhile */
+    int error;               /* why a byte could not be written; 0 as long as all could */
+    bool is_beside;          /* not so for standard output and for devices, which are written where they are */
+    char place[MOST_PLACE];  /* where it is to lie */
+    char beside[MOST_PLACE]; /* where it lies meanwhile */
 } output_file;
 
 /* Opens the file of this name, '-' for standard output. If it cannot be written, says so on standard error and gives

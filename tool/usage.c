@@ -2,55 +2,76 @@
 
 #include <stdio.h>
 
-static const char usage[] =
-    "usage: jokulvisp words LIST\n"
-    "       jokulvisp check [-s WIDTHxHEIGHT] [-g RAM_G] [-l LIMIT] LIST\n"
-    "       jokulvisp draw [-s WIDTHxHEIGHT] [-g RAM_G] [-l LIMIT] [--tags TAGS] -o PICTURE LIST\n"
-    "       jokulvisp --help\n";
+#include "version.h"
 
-static const char help[] =
-    "\n"
-    "  words LIST   print a display list word by word: byte offset, bits, command and fields,\n"
-    "               or the number that refuses the word and what is wrong with it\n"
-    "  check LIST   run a display list and say in one line whether it draws; if it does not, standard\n"
-    "               error says what is wrong and where\n"
-    "                 done COUNT\n"
-    "                     it draws, and its run fetches so many words\n"
-    "                 fault NUMBER at OFFSET after COUNT\n"
-    "                     the word at that byte offset is at fault, or for 10 and 19 would be next\n"
-    "                 refused NUMBER\n"
-    "                     frame, list length, RAM_G length or limit is out of bounds; nothing was run\n"
-    "  draw LIST    draw a display list, and say the same as check; a list that does not draw leaves\n"
-    "               the files as they were\n"
-    "\n"
-    "  of both, check and draw:\n"
-    "    -s, --size WxH     the frame's width, 1 to 800, and height, 1 to 600, in pixels, as in 800x480;\n"
-    "                       480x272 if not given\n"
-    "    --width N, --height N\n"
-    "                       one of the two alone\n"
-    "    -l, --limit N      how many words may be fetched, 1 to 65536; 65536 if not given\n"
-    "    -g, --ram-g FILE   the graphics memory, at most 1048576 bytes; none if not given, and then no\n"
-    "                       bitmap can be drawn\n"
-    "  of draw alone:\n"
-    "    -o, --output FILE  where the picture goes, as a binary PPM; with '-' to standard output, and\n"
-    "                       then what check says goes to standard error\n"
-    "    --tags FILE        where the tags go, as a binary PGM, a grey for each tag; nowhere if not given\n"
-    "\n"
-    "LIST is a file of raw display list bytes, lowest byte of each word first. A list has 4 to 8192\n"
-    "bytes, a multiple of 4. For LIST and RAM_G '-' is standard input.\n"
-    "\n"
-    "Exit status: 0 every word could be read (words), the list draws (check, draw); 1 not so; 2 the\n"
-    "command line is wrong, or a file cannot be read or written.\n";
+enum { NAME_COLUMNS = 10, OPTION_COLUMNS = 28 };
 
 int print_help(void)
 {
-    fputs(usage, stdout);
-    fputs(help, stdout);
+    puts("usage: jokulvisp COMMAND [OPTION ..] FILE ..\n"
+         "\n"
+         "Checks, draws and takes apart the display lists of FT81x and BT88x panels.\n");
+    for (size_t n = 0; command_at(n) != NULL; n++)
+        printf("  %-*s%s\n", NAME_COLUMNS, command_at(n)->name, command_at(n)->summary);
+    puts("\n"
+         "jokulvisp COMMAND --help explains a command, jokulvisp --version prints the version.\n"
+         "The manual is 'man jokulvisp'.");
     return SUCCEEDED;
 }
 
-int explain_usage(const char *what, const char *why)
+int print_version(void)
 {
-    fprintf(stderr, "jokulvisp: %s: %s\n%s", what, why, usage);
+    puts("jokulvisp " VERSION);
+    return SUCCEEDED;
+}
+
+/* Every line of the text but the first stands under the first. */
+static void print_beside_option(const char *text)
+{
+    for (; *text != '\0'; text++) {
+        putchar(*text);
+        if (*text == '\n')
+            printf("%*s", OPTION_COLUMNS, "");
+    }
+    putchar('\n');
+}
+
+static void print_option(const option_names *option)
+{
+    char left[OPTION_COLUMNS + 1], letter[] = { '-', option->letter, ',', ' ', '\0' };
+    snprintf(left, sizeof left, "  %s--%s%s%s", option->has_short_name ? letter : "    ", option->name,
+             option->value != NULL ? " " : "", option->value != NULL ? option->value : "");
+    printf("%-*s", OPTION_COLUMNS, left);
+    print_beside_option(option->about);
+}
+
+static void print_options(const command *c)
+{
+    puts("\nOptions:");
+    for (size_t n = 0; option_at(n) != NULL; n++)
+        if (takes_option(c, option_at(n)->letter))
+            print_option(option_at(n));
+}
+
+int print_help_of(const command *c)
+{
+    printf("usage: jokulvisp %s\n\n%s", c->usage, c->about);
+    print_options(c);
+    printf("\nA file named '-' is standard input; one at most can be.\n");
+    printf("\nExamples:\n%s\nExit status:\n%s", c->examples, c->status);
+    return SUCCEEDED;
+}
+
+int explain_usage(const command *c, const char *what, const char *why)
+{
+    fputs("jokulvisp: ", stderr);
+    if (c != NULL)
+        fprintf(stderr, "%s: ", c->name);
+    if (what != NULL)
+        fprintf(stderr, "%s: ", what);
+    fprintf(stderr, "%s\n", why);
+    if (c != NULL)
+        fprintf(stderr, "usage: jokulvisp %s\n", c->usage);
+    fprintf(stderr, "'jokulvisp %s%s--help' says more.\n", c != NULL ? c->name : "", c != NULL ? " " : "");
     return GAVE_UP;
 }

@@ -1,0 +1,10 @@
+/* The command `assemble`: a list made out of text. */
+#ifndef ASSEMBLE_H
+#define ASSEMBLE_H
+
+#include "order.h"
+
+/* Gives the exit status. */
+int run_assemble(const order *o);
+
+#endif
