@@ -112,7 +112,7 @@ impl Masks {
     }
 }
 
-// What a point, a rectangle and a bitmap are drawn with.
+// What every drawing but a CLEAR is drawn with.
 pub struct Ink {
     pub colour: Colour,
     pub alpha: AlphaTest,

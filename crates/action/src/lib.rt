@@ -1,4 +1,4 @@
-// A drawing action: the values of one CLEAR, point, rectangle or bitmap, as document 01 lists them. Two actions are compared by these values alone.
+// A drawing action: the values of one CLEAR, point, rectangle, bitmap or segment of a line, as document 01 lists them. Two actions are compared by these values alone.
 ghost use mathlib.Core.Path.{_≡_};
 ghost use Rattle.action.specs.Same.{Tells};
 
@@ -21,14 +21,17 @@ pub use numbers::StencilAction;
 pub use numbers::Test;
 pub use shape::Area;
 pub use shape::Bitmap;
+pub use shape::End;
 pub use shape::Point;
 pub use shape::Rectangle;
+pub use shape::Segment;
 
 pub enum Drawing {
     Clear(Clear),
     Point(Point, Ink),
     Rectangle(Rectangle, Ink),
     Bitmap(Bitmap, Ink),
+    Segment(Segment, Ink),
 }
 
 impl Drawing {
@@ -40,6 +43,7 @@ impl Drawing {
             Drawing::Point(point, ink) => other.is_point(point, ink),
             Drawing::Rectangle(rectangle, ink) => other.is_rectangle(rectangle, ink),
             Drawing::Bitmap(bitmap, ink) => other.is_bitmap(bitmap, ink),
+            Drawing::Segment(segment, ink) => other.is_segment(segment, ink),
         }
     }
 
@@ -75,6 +79,15 @@ impl Drawing {
     {
         if let Drawing::Bitmap(own, own_ink) = self {
             return bitmap.is(own) & ink.is(own_ink);
+        }
+        false
+    }
+
+    fn is_segment(self, segment: Segment, ink: Ink) -> bool
+        ensures { λ r. ⌜ Tells r (Drawing.Segment segment ink ≡ self) ⌝ }
+    {
+        if let Drawing::Segment(own, own_ink) = self {
+            return segment.is(own) & ink.is(own_ink);
         }
         false
     }

@@ -1,5 +1,6 @@
 // Which pixels are covered.
 ghost use mathlib.Core.Path.{_≡_};
+ghost use Rattle.action.specs.Ends.{shortEnd, shortEnds};
 ghost use Rattle.action.specs.Same.{Tells};
 use crate::numbers::Format;
 use units::Pixels;
@@ -56,6 +57,60 @@ impl Rectangle {
             & (self.right.0 == other.right.0)
             & (self.bottom.0 == other.bottom.0)
             & (self.width == other.width)
+    }
+}
+
+// An end of a line.
+pub struct End {
+    pub x: Sixteenths,
+    pub y: Sixteenths,
+}
+
+impl End {
+    pub fn is(self, other: End) -> bool
+        ensures { λ r. ⌜ Tells r (self ≡ other) ⌝ }
+    {
+        (self.x.0 == other.x.0) & (self.y.0 == other.y.0)
+    }
+
+    fn is_short(self) -> bool
+        ensures { λ r. ⌜ r ≡ shortEnd self ⌝ }
+    {
+        let x = self.x;
+        let y = self.y;
+        x.is_short() & y.is_short()
+    }
+}
+
+// The ends in the order given, the line width, and the primitive: 3 for LINES, 4 for LINE_STRIP.
+pub struct Segment {
+    pub from: End,
+    pub to: End,
+    pub width: u32,
+    pub primitive: u32,
+}
+
+impl Segment {
+    pub fn is(self, other: Segment) -> bool
+        ensures { λ r. ⌜ Tells r (self ≡ other) ⌝ }
+    {
+        let from = self.from;
+        let other_from = other.from;
+        let to = self.to;
+        let other_to = other.to;
+        from.is(other_from)
+            & to.is(other_to)
+            & (self.width == other.width)
+            & (self.primitive == other.primitive)
+    }
+
+    // Whether it may be drawn: an end further out is refused.
+    pub fn is_short(self) -> bool
+        ensures { λ r. ⌜ r ≡ shortEnds self ⌝ }
+    {
+        let from = self.from;
+        let to = self.to;
+        from.is_short() & to.is_short()
     }
 }
 

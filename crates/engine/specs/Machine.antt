@@ -1,5 +1,5 @@
 -- One command: what it does to the machine and to the handles, and what it tells. Document 01, 'Words and state' and the rows 11 to 18 of
--- 'Number table'; where it is silent the guide's section of the command.
+-- 'Number table', and wish 1 of document 02; where they are silent the guide's section of the command.
 use mathlib.Core.Bool.{Bool, cond}
 use mathlib.Core.List.{List, [], _∷_, _++_}
 use Prim.Native.Nat.{ℕ, _+_, _-_, _*_, _%_, _^_}
@@ -14,6 +14,8 @@ use Rattle.words.specs.declared.reading.Read.the-variants as r
 use Rattle.words.specs.declared.word.Word.{Word}
 use Rattle.words.specs.declared.word.Word.the-variants as v
 use Rattle.action.specs.declared.shape.Rectangle.{Rectangle}
+use Rattle.action.specs.declared.shape.Segment.{Segment}
+use Rattle.action.specs.Ends.{shortEnds}
 use Rattle.engine.specs.declared.context.Placing.{Placing}
 use Rattle.engine.specs.declared.handles.Judged.{Judged}
 use Rattle.engine.specs.declared.handles.Judged.the-variants as j
@@ -59,7 +61,7 @@ returned m =
       corner = m .corner;
     }
 
--- 'BEGIN and END drop an open corner; END leaves no primitive begun'
+-- 'BEGIN and END drop an open corner; END leaves no primitive begun', and of lines: 'BEGIN and END drop an open end'
 abbrev pub closed : Corner → Corner
 closed c = record { x = c .x; y = c .y; waits = 0 }
 
@@ -67,7 +69,8 @@ abbrev pub beginning : Machine → ℕ → Machine
 beginning m primitive =
     record { context = m .context; calls = m .calls; depth = m .depth; primitive = primitive; at = m .at; corner = closed (m .corner) }
 
--- NOT DRAWN YET. 'Primitives: BITMAPS, POINTS, RECTS. Formats: L8 (3), RGB565 (7), ARGB1555 (0). Not drawn yet: .. filter 1, wrap 1.'
+-- NOT DRAWN YET. 'Primitives: BITMAPS, POINTS, RECTS. Formats: L8 (3), RGB565 (7), ARGB1555 (0). Not drawn yet: .. filter 1, wrap 1.', and of lines:
+-- '13 no longer covers primitives 3 and 4'
 unfoldable pub drawnFormat : ℕ → Bool
 drawnFormat n = either (eqb n 0) (either (eqb n 3) (eqb n 7))
 
@@ -75,7 +78,7 @@ unfoldable pub drawnSize : ℕ → ℕ → ℕ → Bool
 drawnSize filter wrapx wrapy = both (eqb filter 0) (both (eqb wrapx 0) (eqb wrapy 0))
 
 unfoldable pub drawnPrimitive : ℕ → Bool
-drawnPrimitive n = either (eqb n 1) (either (eqb n 2) (eqb n 9))
+drawnPrimitive n = either (eqb n 1) (either (eqb n 2) (either (eqb n 3) (either (eqb n 4) (eqb n 9))))
 
 -- A VERTEX. 'A VERTEX2F number is multiplied by 2^(4-frac), a VERTEX2II number by 16, then the translation is added.'
 abbrev pub unitOf : ℕ → ℕ
@@ -123,7 +126,7 @@ abbrev pub bitmapped : Judged → Event
 bitmapped (j.Drawable b) = e.Draw (s.Bitmap b)
 bitmapped j.Undrawable = e.Fault 18
 
--- the second corner draws, and a third vertex opens a new rectangle; no primitive begun is 17
+-- the second corner draws, and a third vertex opens a new rectangle
 abbrev pub cornered : Machine → Vertex → Stepped
 cornered m v =
     cond (eqb (m .corner .waits) 0)
@@ -133,12 +136,31 @@ cornered m v =
       event = e.Draw (s.Rectangle (rectangleOf (m .corner) v (m .context .placing .linewidth)));
     })
 
+-- LINES. 'Ends are placed as corners are and compared in the order given; a segment uses the state at its second end.'
+unfoldable pub segmentFrom : Corner → Vertex → ℕ → ℕ → Segment
+segmentFrom c v width primitive =
+    record { from = record { x = c .x; y = c .y }; to = record { x = v .x; y = v .y }; width = width; primitive = primitive }
+
+-- '20 when an end lies outside -32768..32767 sixteenths, .. at the vertex that completes the segment'
+unfoldable pub segmented : Segment → Event
+segmented d = cond (shortEnds d) (e.Draw (s.Segment d)) (e.Fault 20)
+
+-- a vertex that finds no open end opens one; else it completes a segment and leaves `next`, open or closed
+abbrev pub ended : Machine → Vertex → Corner → Stepped
+ended m v next =
+    cond (eqb (m .corner .waits) 0)
+    (record { machine = withCorner m (openedAt v); event = e.Quiet })
+    (record { machine = withCorner m next; event = segmented (segmentFrom (m .corner) v (m .context .placing .linewidth) (m .primitive)) })
+
+-- 'In LINES vertices pair up; in a strip each vertex after the first ends a segment'. No primitive begun is 17
 unfoldable pub vertexed : Machine → List ℕ → ℕ → Vertex → Stepped
 vertexed m hs memory v =
     cond (eqb (m .primitive) 1) (record { machine = m; event = bitmapped (judged (handleAt hs (v .handle)) v memory) })
     (cond (eqb (m .primitive) 2) (record { machine = m; event = pointed v (m .context .placing .pointsize) })
+    (cond (eqb (m .primitive) 3) (ended m v (closed (m .corner)))
+    (cond (eqb (m .primitive) 4) (ended m v (openedAt v))
     (cond (eqb (m .primitive) 9) (cornered m v)
-    (record { machine = m; event = e.Fault 17 })))
+    (record { machine = m; event = e.Fault 17 })))))
 
 -- THE COMMANDS
 pub record Obeys : Type 0 where

@@ -1,6 +1,6 @@
 -- The run of a list: its actions in order, and its number, place and count together. Document 01, 'Number table': the rows 0, 10 and 19, and
 -- 'Numbers 10 to 19 carry the byte offset of the word (for 10 and 19, the one that would be next). Words fetched are counted, the faulting
--- one included'.
+-- one included'. Wish 1 of document 02 adds 20, which is told as these are.
 use mathlib.Core.Path.{_≡_}
 use mathlib.Core.Bool.{Bool, true, false, cond, _&&_}
 use mathlib.Core.List.{List, [], _∷_}
@@ -39,6 +39,7 @@ drawingOf c (s.Clear flags) = d.Clear (clearOf c flags)
 drawingOf c (s.Point p) = d.Point p (inkOf (c .brush))
 drawingOf c (s.Rectangle r) = d.Rectangle r (inkOf (c .brush))
 drawingOf c (s.Bitmap b) = d.Bitmap b (inkOf (c .brush))
+drawingOf c (s.Segment l) = d.Segment l (inkOf (c .brush))
 
 unfoldable pub actionOf : Context → Shape → Action
 actionOf c shape = record { scissor = scissorOf (c .placing); masks = c .masks; drawing = drawingOf c shape }

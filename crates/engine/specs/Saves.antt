@@ -43,7 +43,8 @@ pub record Restored (c : Context) (before after : Kept) : Type 0 where
   pub list : saved after ≡ drop 1 (saved before)
   pub whole : Whole after
 
--- the machine's parts that 'are not part of a context': the primitive and the open corner, and the place and the open calls
+-- the machine's parts that 'are not part of a context': the primitive and the open corner, and the place and the open calls. The open corner is a
+-- line's open end too, 'which no context holds' by wish 1 of document 02
 pub record SameElse (m n : Machine) : Type 0 where
   pub calls : m .calls ≡ n .calls
   pub depth : m .depth ≡ n .depth

@@ -1,9 +1,9 @@
-// The machine: the current context, the open calls, the primitive, the open corner and the place; and what each command
+// The machine: the current context, the open calls, the primitive, the open corner or end and the place; and what each command
 // does to it.
 ghost use mathlib.Core.Path.{_≡_};
 ghost use Prim.Native.Nat.{_≤_, _<_, _+_, _-_, _^_};
 ghost use Rattle.engine.specs.Handles.{judged, Narrow};
-ghost use Rattle.engine.specs.Machine.{started, called, returned, drawnFormat, drawnSize, drawnPrimitive, unitOf, placed2f, placed2ii, rectangleOf, openedAt, clears, pointed, bitmapped, vertexed, obeys, steps};
+ghost use Rattle.engine.specs.Machine.{started, called, returned, drawnFormat, drawnSize, drawnPrimitive, unitOf, placed2f, placed2ii, rectangleOf, openedAt, clears, pointed, bitmapped, segmentFrom, segmented, vertexed, obeys, steps};
 use crate::context::Context;
 use crate::context::Placing;
 use crate::handles::Handle;
@@ -17,22 +17,24 @@ use crate::handles::put_size;
 use crate::handles::put_size_high;
 use crate::handles::put_source;
 use action::Bitmap;
+use action::End;
 use action::Point;
 use action::Rectangle;
+use action::Segment;
 use units::Pixels;
 use units::Sixteenths;
 use words::Read;
 use words::Word;
 
-// A rectangle's first corner; `waits` is 1 while it waits for the second one, else 0.
+// A rectangle's first corner or a line's first end; `waits` is 1 while it waits for the second one, else 0.
 pub struct Corner {
     pub x: Sixteenths,
     pub y: Sixteenths,
     pub waits: u64,
 }
 
-// `calls` holds the return addresses, newest first, and `depth` how many are open. `primitive` is BEGIN's number, 1 for BITMAPS, 2 for POINTS
-// and 9 for RECTS, or 0 while none is begun.
+// `calls` holds the return addresses, newest first, and `depth` how many are open. `primitive` is BEGIN's number, 1 for BITMAPS, 2 for POINTS,
+// 3 for LINES, 4 for LINE_STRIP and 9 for RECTS, or 0 while none is begun.
 pub struct Machine {
     pub context: Context,
     pub calls: [u32; 4],
@@ -55,6 +57,7 @@ pub enum Shape {
     Point(Point),
     Rectangle(Rectangle),
     Bitmap(Bitmap),
+    Segment(Segment),
 }
 
 // What a word came to: nothing to tell, a context to save or to restore, an action, the list's end, or a number of
@@ -109,13 +112,15 @@ fn is_drawn_size(filter: u32, wrapx: u32, wrapy: u32) -> bool
     wrapy == 0
 }
 
-// BITMAPS, POINTS and RECTS.
+// BITMAPS, POINTS, LINES, LINE_STRIP and RECTS.
 fn is_drawn_primitive(primitive: u32) -> bool
     ensures { λ r. ⌜ r ≡ drawnPrimitive primitive ⌝ }
 {
     match primitive {
         1 => true,
         2 => true,
+        3 => true,
+        4 => true,
         9 => true,
         _ => false,
     }
@@ -179,6 +184,24 @@ fn rectangle(c: Corner, v: Vertex, width: u32) -> Rectangle
     }
 }
 
+// The segment from the open end to the vertex.
+fn segment(c: Corner, v: Vertex, width: u32, primitive: u32) -> Segment
+    ensures { λ r. ⌜ r ≡ segmentFrom c v width primitive ⌝ }
+{
+    let cx = c.x;
+    let cy = c.y;
+    let vx = v.x;
+    let vy = v.y;
+    let from = End { x: cx, y: cy };
+    let to = End { x: vx, y: vy };
+    Segment {
+        from: from,
+        to: to,
+        width: width,
+        primitive: primitive,
+    }
+}
+
 fn opened_at(v: Vertex) -> Corner
     ensures { λ r. ⌜ r ≡ openedAt v ⌝ }
 {
@@ -220,6 +243,16 @@ fn rectangle_event(c: Corner, v: Vertex, width: u32) -> Event
 {
     let drawn = rectangle(c, v, width);
     Event::Draw(Shape::Rectangle(drawn))
+}
+
+fn segment_event(c: Corner, v: Vertex, width: u32, primitive: u32) -> Event
+    ensures { λ r. ⌜ r ≡ segmented (segmentFrom c v width primitive) ⌝ }
+{
+    let drawn = segment(c, v, width, primitive);
+    if drawn.is_short() {
+        return Event::Draw(Shape::Segment(drawn));
+    }
+    Event::Fault(20)
 }
 
 fn bitmap_event(h: Handle, v: Vertex, memory: u32) -> Event
@@ -295,6 +328,27 @@ impl Machine {
         let event = match primitive {
             1 => bitmap_event(handle_at(handles, v.handle), v, memory),
             2 => point_event(v, self.context.placing.pointsize),
+            3 => {
+                let corner = self.corner;
+                if corner.waits == 0 {
+                    let opened = opened_at(v);
+                    self.corner = opened;
+                    Event::Quiet
+                } else {
+                    self.corner.waits = 0;
+                    segment_event(corner, v, self.context.placing.linewidth, 3)
+                }
+            }
+            4 => {
+                let corner = self.corner;
+                let next = opened_at(v);
+                self.corner = next;
+                if corner.waits == 0 {
+                    Event::Quiet
+                } else {
+                    segment_event(corner, v, self.context.placing.linewidth, 4)
+                }
+            }
             9 => {
                 let corner = self.corner;
                 if corner.waits == 0 {

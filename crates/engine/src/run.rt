@@ -53,6 +53,7 @@ fn draw(context: Context, shape: Shape) -> Drawing
         Shape::Point(point) => Drawing::Point(point, context.ink()),
         Shape::Rectangle(rectangle) => Drawing::Rectangle(rectangle, context.ink()),
         Shape::Bitmap(bitmap) => Drawing::Bitmap(bitmap, context.ink()),
+        Shape::Segment(segment) => Drawing::Segment(segment, context.ink()),
     }
 }
 

@@ -1,6 +1,7 @@
 -- What jv_repaint answers, and every byte that it leaves. Document 01, 'Number table': 'Repaint tests 1 to 4, then runs the old list, then the new; for 2
 -- and 10 to 19 it names the list (old 1, told first; new 2), otherwise 0. Its count is the rows marked, at a fault the words that list fetched.' 'All
--- numbers but 0 leave picture, tags and marks as lent.'
+-- numbers but 0 leave picture, tags and marks as lent.' Document 02 of 20, which wish 1 brings: 'Numbers 20 to 25 carry place, count and list as 10 to 19
+-- do.'
 use mathlib.Core.Path.{_≡_}
 use mathlib.Core.Bool.{Bool, cond, _&&_}
 use mathlib.Core.List.{List}

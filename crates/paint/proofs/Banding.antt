@@ -14,14 +14,18 @@ use Rattle.action.specs.declared.shape.Area.{Area}
 use Rattle.pixel.specs.declared.Pixel.{Pixel}
 use Rattle.shape.proofs.Bools.{between-true}
 use Rattle.shape.specs.Cover.{areaCovers, between, covers, reaches}
-use Rattle.shape.specs.OneRow.{Bounds, larger, smaller}
+use Rattle.shape.specs.OneRow.{Bounds, InFrame, larger, smaller}
 use Rattle.shape.specs.declared.Outline.{Outline}
 use Rattle.shape.specs.declared.Rows.{Rows}
 use Rattle.store.specs.Store.{Put}
 use Rattle.units.specs.declared.Pixels.{Pixels}
-use Rattle.units.specs.Units.{pixelAt, countBefore}
+use Rattle.units.specs.Units.{PixelOf, pixelAt, countBefore}
 use Rattle.paint.specs.Actions.{Bands, Keeps}
 use Rattle.paint.specs.Picture.{drawnAt, outlineOf}
+
+-- a row of a frame
+pub row-in-frame : {width y : ℕ} {q : Pixels} → width ≤ 800 → y < 600 → PixelOf y q → InFrame width q
+row-in-frame w l e = (w, (omega (arith, e .kept), omega (arith, e .kept, l)))
 
 -- a row from a pixel on, and one before it, by the count of rows before that pixel
 from-on : (p : Pixels) (y : ℕ) → p .0 ≤ pixelAt y .0 → countBefore 600 p ≤ y

@@ -31,6 +31,7 @@ outlineOf (d.Clear c) = cond (isAny c) o.Everything o.Nothing
 outlineOf (d.Point point ink) = o.Point point
 outlineOf (d.Rectangle rectangle ink) = o.Rectangle rectangle
 outlineOf (d.Bitmap bitmap ink) = o.Area (bitmap .area)
+outlineOf (d.Segment segment ink) = o.Segment segment
 
 -- what a drawing makes of the pixel at column p and row q: 'Texel (white where no bitmap is drawn)'
 unfoldable pub changed : List ℕ → Masks → Drawing → Pixels → Pixels → Pixel → Pixel
@@ -39,6 +40,7 @@ changed memory masks (d.Point point ink) p q before = painted ink masks white be
 changed memory masks (d.Rectangle rectangle ink) p q before = painted ink masks white before
 changed memory masks (d.Bitmap bitmap ink) p q before =
     painted ink masks (texelAt bitmap (p .0 - bitmap .area .left .0) (q .0 - bitmap .area .top .0) memory) before
+changed memory masks (d.Segment segment ink) p q before = painted ink masks white before
 
 -- 'Only pixels in both frame and scissor count.'
 unfoldable pub drawnAt : List ℕ → Action → Pixels → Pixels → Pixel → Pixel

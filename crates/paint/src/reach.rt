@@ -1,6 +1,6 @@
 // Which rows of a frame an action reaches.
 ghost use mathlib.Core.Path.{_≡_};
-ghost use Prim.Native.Nat.{_<_};
+ghost use Prim.Native.Nat.{_<_, _≤_};
 ghost use Rattle.shape.specs.Cover.{reachesRow};
 ghost use Rattle.shape.specs.OneRow.{larger, smaller};
 ghost use Rattle.units.specs.Units.{pixelAt};
@@ -39,6 +39,7 @@ pub fn outline(drawing: Drawing) -> Outline
             let area = bitmap.area;
             Outline::Area(area)
         }
+        Drawing::Segment(segment, _) => Outline::Segment(segment),
     }
 }
 
@@ -74,6 +75,7 @@ pub fn rows_of(action: Action) -> Band
 
 // Whether the action reaches row y of a frame of this width.
 pub fn reaches(action: Action, width: u32, y: u32) -> bool
+    requires { ⌜ (width ≤ 800) × (y < 600) ⌝ }
     ensures { λ r. ⌜ r ≡ reachesRow (outlineOf (action .drawing)) (action .scissor) width (pixelAt y) ⌝ }
 {
     let drawing = action.drawing;

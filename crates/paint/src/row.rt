@@ -1,9 +1,10 @@
 // One action drawn into one row. `draw` shows the order: which columns the action reaches, whether it does the same to all
 // of them, and then the columns one by one.
 ghost use mathlib.Core.Path.{_≡_};
-ghost use Prim.Native.Nat.{_<_, _≤_, _-_, _^_};
+ghost use Prim.Native.Nat.{_<_, _≤_, _-_};
 ghost use Rattle.pixel.specs.Plain.{filled};
 ghost use Rattle.pixel.specs.Pixel.{cleared};
+ghost use Rattle.shape.specs.OneRow.{InFrame};
 ghost use Rattle.paint.specs.Runs.{Lent, Swept, Touched, PlainDrawing, PlainOver, Drawn, brushOf, change, held, inked, pixelIn, texelIn};
 use crate::point;
 use crate::reach;
@@ -35,7 +36,7 @@ pub enum Texture {
     Of(Bitmap),
 }
 
-// What a point, a rectangle or a bitmap is drawn with.
+// What every drawing but a CLEAR is drawn with.
 pub struct Brush {
     pub texture: Texture,
     pub ink: Ink,
@@ -48,8 +49,8 @@ fn plainly_drawn(drawing: Drawing, masks: Masks) -> Plain
 {
     match drawing {
         Drawing::Clear(clear) => pixel::plain_clear(clear, masks),
-        Drawing::Point(_, ink) => pixel::plain_ink(ink, masks),
-        Drawing::Rectangle(_, ink) => pixel::plain_ink(ink, masks),
+        Drawing::Point(_, ink) | Drawing::Rectangle(_, ink) | Drawing::Segment(_, ink) =>
+            pixel::plain_ink(ink, masks),
         Drawing::Bitmap(_, _) => Plain::Each,
     }
 }
@@ -273,11 +274,7 @@ fn draw_columns(
         Drawing::Clear(clear) => {
             clear_columns(stretch, clear, masks, picture, tags, alpha, stencil);
         }
-        Drawing::Point(_, ink) => {
-            let brush = Brush::plain(ink, masks);
-            ink_columns(stretch, brush, q, memory, picture, tags, alpha, stencil);
-        }
-        Drawing::Rectangle(_, ink) => {
+        Drawing::Point(_, ink) | Drawing::Rectangle(_, ink) | Drawing::Segment(_, ink) => {
             let brush = Brush::plain(ink, masks);
             ink_columns(stretch, brush, q, memory, picture, tags, alpha, stencil);
         }
@@ -340,7 +337,7 @@ pub fn draw(
     alpha: &mut [u8],
     stencil: &mut [u8],
 )
-    requires { ⌜ (q .0 < 2 ^ 60) × Lent width (now picture) (now tags) (now alpha) (now stencil) ⌝ }
+    requires { ⌜ InFrame width q × Lent width (now picture) (now tags) (now alpha) (now stencil) ⌝ }
     ensures { λ _. ⌜ Drawn (now (memory .entry)) action width q (pixelIn (now (picture .entry)) (now (tags .entry)) (now (alpha .entry)) (now (stencil .entry))) (pixelIn (now (picture .exit)) (now (tags .exit)) (now (alpha .exit)) (now (stencil .exit))) ⌝ }
 {
     let drawing = action.drawing;

@@ -63,6 +63,7 @@ fn is_same(old: Find, new: Find) -> bool
 
 // Nothing comes any more of a list that has ended: that tells of every row, as an action does of the rows that it reaches.
 fn meets(find: Find, width: u32, y: u32) -> bool
+    requires { ⌜ (width ≤ 800) × (y < 600) ⌝ }
     ensures { λ r. ⌜ r ≡ meetsRow find width y ⌝ }
 {
     match find {
@@ -92,6 +93,7 @@ fn rows_of(find: Find) -> Band
 // By row y: a list whose action reaches the row waits. Where both could go on, the one does that has more of its list ahead:
 // past words that were put in or taken out, the two then come to the same action again.
 fn choose(old: Find, new: Find, ahead: Ahead, width: u32, y: u32) -> Pace
+    requires { ⌜ (width ≤ 800) × (y < 600) ⌝ }
     ensures { λ r. ⌜ r ≡ paceOf old new (ahead .old) (ahead .new) width y ⌝ }
 {
     let a = meets(old, width, y);

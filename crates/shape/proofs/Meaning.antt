@@ -1,5 +1,5 @@
 -- Cover's definitions say what document 01 says of integers. Assumes nothing.
-use mathlib.Core.Path.{_≡_, refl, sym, _∙_, ap}
+use mathlib.Core.Path.{_≡_, refl, sym, _∙_, ap, subst}
 use mathlib.Core.Bool.{Bool, true, _&&_}
 use Prim.Native.Nat.{ℕ, _+_, _-_, _*_, _≤_}
 use native.Mathlib.Omega.{arith}
@@ -10,15 +10,21 @@ use borrow.Author.Tests.{leb-true, le-leb}
 use Rattle.truth.proofs.Bools.{both-made, both-true}
 use Rattle.units.specs.declared.Pixels.{Pixels}
 use Rattle.units.specs.declared.Sixteenths.{Sixteenths}
-use Rattle.units.specs.Units.{displacement, meantPixels, meantSixteenths, distance, sampled, spaced}
-use Rattle.units.proofs.Meaning.{sampled-at, apart-by}
+use Rattle.units.specs.Units.{displacement, meantPixels, meantSixteenths, distance, sampled, spaced, isShort, shortFrom, shortTo}
+use Rattle.units.proofs.Meaning.{sampled-at, apart-by, mean-apart}
 use Rattle.action.specs.declared.shape.Area.{Area}
 use Rattle.action.specs.declared.shape.Point.{Point}
 use Rattle.action.specs.declared.shape.Rectangle.{Rectangle}
+use Rattle.action.specs.declared.shape.End.{End}
+use Rattle.action.specs.declared.shape.Segment.{Segment}
+use Rattle.action.specs.Ends.{shortEnds}
 use Rattle.action.specs.Same.{Tells}
 use Rattle.action.proofs.Telling.{tells-as}
-use Rattle.shape.specs.Cover.{within, outside, between, pointCovers, rectangleCovers, areaCovers}
-use Rattle.shape.specs.Meaning.{nearPlace, NearBox, InOrder, InArea, Meant}
+use Rattle.shape.specs.Cover.{within, outside, between, toMean, nearMean, pointCovers, rectangleCovers, segmentCovers, areaCovers}
+use Rattle.shape.specs.Meaning.{nearPlace, NearBox, InOrder, InRange, distanceToMean, NearSegment, toMean², Nearest, InArea, Meant}
+use Rattle.shape.proofs.Bools.{same-tests}
+use Rattle.shape.proofs.Means.{weights, least-mean}
+use Rattle.shape.proofs.Narrowing.{covered-near, near-covered}
 use Rattle.shape.proofs.Squares.{square-le}
 use Rattle.shape.proofs.Order.{tells-le, tells-lt, kept-from}
 
@@ -51,13 +57,13 @@ within-nearer a b c d size h k e =
     le-leb (a * a + b * b) (size * size) (omega arith)
 
 -- along one axis: the place of the range that is nearest to a position, and that no place of it is nearer
-pub record Nearest (s low high : Sixteenths) : Type 0 where
+pub record NearestIn (s low high : Sixteenths) : Type 0 where
   pub place : Sixteenths
   pub from : low .0 ≤ place .0
   pub to : place .0 ≤ high .0
   pub apart : spaced s place ≡ outside s low high
 
-nearest : (s low high : Sixteenths) → low .0 ≤ high .0 → Nearest s low high
+nearest : (s low high : Sixteenths) → low .0 ≤ high .0 → NearestIn s low high
 nearest s low high h = record {
   place = record { 0 = s .0 + (low .0 - s .0) - (s .0 - high .0) };
   from = omega arith;
@@ -115,9 +121,52 @@ areas-meant a p q =
     half : (first end n : ℕ) → Tells (between first end n) ((subℕ first displacement ≤ℤ subℕ n displacement) × (subℕ n displacement <ℤ subℕ end displacement))
     half first end n = tells-both (tells-le displacement first n) (tells-lt displacement n end)
 
+-- the distance of a pixel's sample to a mean, times the sum of its weights
+mean-away : (k n : ℕ) (a b : Sixteenths) (p : Pixels) → distanceToMean k n a b p ≡ toMean k n a b (sampled p)
+mean-away k n a b p = rw (← sampled-at p .meant) (mean-apart k n a b (sampled p))
+
+module _ (d : Segment) (p q : Pixels) where
+  segment-held : segmentCovers d p q ≡ true → NearSegment d p q
+  unfolding nearMean
+  segment-held e =
+      let h = covered-near d p q e in
+      record {
+        k = h .k;
+        n = h .n;
+        some = h .some;
+        near = rw (mean-away (h .k) (h .n) (d .from .x) (d .to .x) p, mean-away (h .k) (h .n) (d .from .y) (d .to .y) q) (h .near);
+      }
+
+  segment-told : shortEnds d ≡ true → NearSegment d p q → segmentCovers d p q ≡ true
+  unfolding nearMean
+  segment-told short h =
+      near-covered d p q short
+      (record {
+        k = h .k;
+        n = h .n;
+        some = h .some;
+        near = rw (mean-away (h .k) (h .n) (d .from .x) (d .to .x) p, mean-away (h .k) (h .n) (d .from .y) (d .to .y) q) at (h .near);
+      })
+
+nearest-mean : (d : Segment) (s : End) → Nearest d s
+unfolding toMean²
+nearest-mean d s = record { some = weights d s; none-nearer = λ k n some. least-mean d s k n }
+
+shorts-meant : (s : Sixteenths) → Tells (isShort s) (InRange s)
+unfolding isShort meantSixteenths
+shorts-meant s =
+    tells-as (λ t. record { from = t .0; to = t .1 }) (λ i. (i .from, i .to))
+    (tells-both (tells-le (16 * displacement) shortFrom (s .0))
+    (subst (λ (b : Bool). Tells b (subℕ (s .0) (16 * displacement) ≤ℤ pos 32767))
+    (same-tests (s .0) (shortTo - 1) (s .0) shortTo (λ l. omega arith) (λ l. omega arith))
+    (tells-le (16 * displacement) (s .0) (shortTo - 1))))
+
 pub meant : Meant
 meant = record {
   points = points-meant;
   rectangles = λ d o p q. record { holds = box-held d p q o; told = box-told d p q };
+  shorts = shorts-meant;
+  segments = λ d short p q. record { holds = segment-held d p q; told = segment-told d p q short };
+  nearest = nearest-mean;
   areas = areas-meant;
 }

@@ -37,7 +37,7 @@ strict d a b l =
     (λ h. rw (le-ltb b d (omega arith)) (record { lt = lt→ltb (a - d) (b - d) (omega arith) }))
 
 -- the other way round: of two numbers, one is below the other or the other is not above it
-by-order : {P : Type 0} (a b : ℕ) → (a < b → P) → (b ≤ a → P) → P
+pub by-order : {P : Type 0} (a b : ℕ) → (a < b → P) → (b ≤ a → P) → P
 by-order {P} a b below from = go (ltb a b) refl
   where
     go : (t : Bool) → ltb a b ≡ t → P

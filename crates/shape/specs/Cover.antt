@@ -1,4 +1,5 @@
--- Which pixels an action covers, and which rows it reaches. Document 01, 'Which pixels', in the numbers that are kept of positions.
+-- Which pixels an action covers, and which rows it reaches. Document 01, 'Which pixels', and wish 1 of document 02, in the numbers that are kept of
+-- positions.
 use mathlib.Core.Bool.{Bool, true, false, _&&_, _||_}
 use Prim.Native.Nat.{ℕ, zero, suc, _+_, _-_, _*_}
 use lib.Dec.{leb, ltb}
@@ -6,8 +7,11 @@ use Rattle.units.specs.declared.Pixels.{Pixels}
 use Rattle.units.specs.declared.Sixteenths.{Sixteenths}
 use Rattle.units.specs.Units.{pixelAt, sampled, spaced}
 use Rattle.action.specs.declared.shape.Area.{Area}
+use Rattle.action.specs.declared.shape.End.{End}
 use Rattle.action.specs.declared.shape.Point.{Point}
 use Rattle.action.specs.declared.shape.Rectangle.{Rectangle}
+use Rattle.action.specs.declared.shape.Segment.{Segment}
+use Rattle.action.specs.Ends.{shortEnds}
 use Rattle.shape.specs.declared.Outline.{Outline}
 use Rattle.shape.specs.declared.Outline.the-variants as o
 
@@ -19,6 +23,10 @@ within a b size = leb (a * a + b * b) (size * size)
 abbrev pub outside : Sixteenths → Sixteenths → Sixteenths → ℕ
 outside s low high = (low .0 - s .0) + (s .0 - high .0)
 
+-- "Pixel (p, q) is sampled at (16p, 16q)."
+abbrev pub sampleAt : Pixels → Pixels → End
+sampleAt p q = record { x = sampled p; y = sampled q }
+
 -- "POINTS: covered exactly if the squared distance to the vertex is at most the squared size."
 unfoldable pub pointCovers : Point → Pixels → Pixels → Bool
 pointCovers d p q = within (spaced (sampled p) (d .x)) (spaced (sampled q) (d .y)) (d .size)
@@ -27,6 +35,35 @@ pointCovers d p q = within (spaced (sampled p) (d .x)) (spaced (sampled q) (d .y
 unfoldable pub rectangleCovers : Rectangle → Pixels → Pixels → Bool
 rectangleCovers d p q =
     within (outside (sampled p) (d .left) (d .right)) (outside (sampled q) (d .top) (d .bottom)) (d .width)
+
+-- LINES. The places of a closed segment are the means of its ends by two weights that are not both 0, k of the first and n of the second. Along one axis,
+-- from a position to such a mean, times k + n:
+abbrev pub toMean : ℕ → ℕ → Sixteenths → Sixteenths → Sixteenths → ℕ
+toMean k n a b s = spaced (record { 0 = (k + n) * s .0 }) (record { 0 = k * a .0 + n * b .0 })
+
+-- Wish 1: "no further .. than the line width", from the mean; both distances times k + n
+unfoldable pub nearMean : Segment → End → ℕ → ℕ → Bool
+nearMean d s k n =
+    within (toMean k n (d .from .x) (d .to .x) (s .x)) (toMean k n (d .from .y) (d .to .y) (s .y)) ((k + n) * d .width)
+
+unfoldable pub squared : End → End → ℕ
+squared a b = spaced (a .x) (b .x) * spaced (a .x) (b .x) + spaced (a .y) (b .y) * spaced (a .y) (b .y)
+
+-- The nearest place of the segment is the mean with these weights: what the law of cosines gives, and 0 where that is below 0. Ends that are equal count as
+-- 1 apart here; with them every mean is the same place.
+unfoldable pub length² : Segment → ℕ
+length² d = squared (d .from) (d .to) + (1 - squared (d .from) (d .to))
+
+unfoldable pub ofFirst : Segment → End → ℕ
+ofFirst d s = squared s (d .to) + length² d - squared s (d .from)
+
+unfoldable pub ofSecond : Segment → End → ℕ
+ofSecond d s = squared s (d .from) + length² d - squared s (d .to)
+
+-- Wish 1: "A pixel is covered exactly if its sample is no further from the closed segment than the line width." An end that is not short is refused, so that
+-- no other segment is ever asked about.
+unfoldable pub segmentCovers : Segment → Pixels → Pixels → Bool
+segmentCovers d p q = shortEnds d && nearMean d (sampleAt p q) (ofFirst d (sampleAt p q)) (ofSecond d (sampleAt p q))
 
 -- from the first pixel on, and before the end
 abbrev pub between : ℕ → ℕ → ℕ → Bool
@@ -44,6 +81,7 @@ covers o.Everything p q = true
 covers (o.Point d) p q = pointCovers d p q
 covers (o.Rectangle d) p q = rectangleCovers d p q
 covers (o.Area a) p q = areaCovers a p q
+covers (o.Segment d) p q = segmentCovers d p q
 
 -- "Only pixels in both frame and scissor count."
 unfoldable pub reaches : Outline → Area → Pixels → Pixels → Bool

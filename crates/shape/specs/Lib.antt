@@ -1,3 +1,4 @@
 pub mod Cover
+pub mod Lines
 pub mod Meaning
 pub mod OneRow

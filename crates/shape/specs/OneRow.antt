@@ -10,9 +10,11 @@ use Rattle.action.specs.declared.shape.Area.{Area}
 use Rattle.action.specs.declared.shape.Point.{Point}
 use Rattle.action.specs.declared.shape.Rectangle.{Rectangle}
 use Rattle.shape.specs.declared.Outline.{Outline}
+use Rattle.shape.specs.declared.Outline.the-variants as o
 use Rattle.shape.specs.declared.Chord.{Chord}
 use Rattle.shape.specs.declared.Rows.{Rows}
 use Rattle.shape.specs.Cover.{outside, between, covers, reaches}
+use Rattle.shape.specs.Lines.{boxOf}
 
 -- the first pixel whose sample is no number of 64 bits, and the pixels before it
 abbrev pub unsampled : Pixels
@@ -20,6 +22,10 @@ unsampled = record { 0 = 2 ^ 60 }
 
 abbrev pub Sampled : Pixels → Type 0
 Sampled p = p .0 < unsampled .0
+
+-- the row is one of a frame's, and the frame is no wider than a frame may be
+abbrev pub InFrame : ℕ → Pixels → Type 0
+InFrame width q = (width ≤ 800) × ((pixelAt 0 .0 ≤ q .0) × (q .0 < pixelAt 600 .0))
 
 -- The column's sample is near enough to the chord. A size has 32 bits, so that a distance of more is too far whatever the room.
 unfoldable pub nearEnough : ℕ → ℕ → Bool
@@ -54,6 +60,19 @@ pub record Bounds (outline : Outline) (r : Rows) : Type 0 where
 abbrev pub squareOf : Point → Rectangle
 squareOf d = record { left = d .x; top = d .y; right = d .x; bottom = d .y; width = d .size }
 
+-- the outline around a segment, and any other itself
+abbrev pub boxed : Outline → Outline
+boxed o.Nothing = o.Nothing
+boxed o.Everything = o.Everything
+boxed (o.Point d) = o.Point d
+boxed (o.Rectangle d) = o.Rectangle d
+boxed (o.Area a) = o.Area a
+boxed (o.Segment d) = o.Rectangle (boxOf d)
+
+-- the chord's columns are columns of a frame
+abbrev pub Shown : Chord → Type 0
+Shown c = (pixelAt 0 .0 ≤ c .left .0) × (c .right .0 ≤ pixelAt 800 .0)
+
 -- the chord that has each column from the one to the other: no sample of 64 bits lies outside of its range
 abbrev pub flatOver : Pixels → Pixels → Chord
 flatOver left right =
@@ -86,3 +105,7 @@ cutTo scissor width c =
       far = c .far;
       room = c .room;
     }
+
+-- what counts of a row: of the columns that are cut from those of the outline's box, the ones that are covered
+pub record Narrows (outline : Outline) (q : Pixels) (c r : Chord) : Type 0 where
+  pub reached : (scissor : Area) (width : ℕ) (whole : Chord) → width ≤ 800 → between (scissor .top .0) (scissor .bottom .0) (q .0) ≡ true → Chords (boxed outline) q whole → c ≡ cutTo scissor width whole → Reached outline scissor width q r

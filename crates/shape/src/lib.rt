@@ -2,10 +2,15 @@
 ghost use mathlib.Core.Path.{_≡_};
 ghost use Prim.Native.Nat.{_+_, _-_, _/_};
 ghost use Rattle.shape.specs.Cover.{outside, between, reachesRow};
-ghost use Rattle.shape.specs.OneRow.{Sampled, holdsIn, Flat, Chords, Reached, Bounds, squareOf, flatOver, noColumn, larger, smaller, cutTo};
+ghost use Rattle.shape.specs.Lines.{OnScreen};
+ghost use Rattle.shape.specs.OneRow.{Sampled, InFrame, holdsIn, Flat, Chords, Reached, Bounds, Shown, Narrows, squareOf, boxed, flatOver, noColumn, larger, smaller, cutTo};
+
+mod line;
+
 use action::Area;
 use action::Point;
 use action::Rectangle;
+use action::Segment;
 use units::Pixels;
 use units::Sixteenths;
 
@@ -23,6 +28,7 @@ pub enum Outline {
     Point(Point),
     Rectangle(Rectangle),
     Area(Area),
+    Segment(Segment),
 }
 
 // One row of an outline. No column left of `left` or from `right` on is covered, and one between them is exactly if its sample is not too far from
@@ -214,10 +220,10 @@ impl Rows {
 }
 
 impl Outline {
-    // What is covered of row q.
-    pub fn on_row(self, q: Pixels) -> Chord
+    // What is covered of row q, and of a segment what the rectangle around it covers.
+    fn on_row(self, q: Pixels) -> Chord
         requires { ⌜ Sampled q ⌝ }
-        ensures { λ r. ⌜ Chords self q r ⌝ }
+        ensures { λ r. ⌜ Chords (boxed self) q r ⌝ }
     {
         match self {
             Outline::Nothing => Chord::none(),
@@ -225,6 +231,7 @@ impl Outline {
             Outline::Point(point) => Chord::of_rectangle(square(point), q),
             Outline::Rectangle(rectangle) => Chord::of_rectangle(rectangle, q),
             Outline::Area(area) => Chord::of_area(area, q),
+            Outline::Segment(segment) => Chord::of_rectangle(line::around(segment), q),
         }
     }
 
@@ -248,24 +255,37 @@ impl Outline {
                 let bottom = area.bottom;
                 Rows { top, bottom }
             }
+            Outline::Segment(segment) => Rows::of_rectangle(line::around(segment)),
+        }
+    }
+
+    // Of the columns that the chord has, those that are covered.
+    fn narrow(self, chord: Chord, q: Pixels) -> Chord
+        requires { ⌜ OnScreen (q .0) × Shown chord ⌝ }
+        ensures { λ r. ⌜ Narrows self q chord r ⌝ }
+    {
+        match self {
+            Outline::Segment(segment) => line::run(chord, segment, q),
+            _ => chord,
         }
     }
 
     // What counts of row q: the covered columns in both scissor and frame.
     pub fn reach(self, scissor: Area, width: u32, q: Pixels) -> Chord
-        requires { ⌜ Sampled q ⌝ }
+        requires { ⌜ InFrame width q ⌝ }
         ensures { λ r. ⌜ Reached self scissor width q r ⌝ }
     {
         if has_row(scissor, q) {
-            let chord = self.on_row(q);
-            return chord.cut(scissor, width);
+            let whole = self.on_row(q);
+            let chord = whole.cut(scissor, width);
+            return self.narrow(chord, q);
         }
         Chord::none()
     }
 
     // Whether a pixel of row q counts.
     pub fn reaches(self, scissor: Area, width: u32, q: Pixels) -> bool
-        requires { ⌜ Sampled q ⌝ }
+        requires { ⌜ InFrame width q ⌝ }
         ensures { λ r. ⌜ r ≡ reachesRow self scissor width q ⌝ }
     {
         let chord = self.reach(scissor, width, q);

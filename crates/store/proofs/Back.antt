@@ -12,9 +12,9 @@ use Rattle.action.specs.declared.Drawing.the-variants as d
 use Rattle.action.specs.declared.ink.Ink.{Ink}
 use Rattle.action.specs.declared.ink.Masks.{Masks}
 use Rattle.action.specs.declared.shape.Area.{Area}
-use Rattle.store.specs.Reading.{masksOf, clearOf, inkOf, scissorOf, pointOf, rectangleOf, bitmapOf, drawingOf, actionOf}
+use Rattle.store.specs.Reading.{masksOf, clearOf, inkOf, scissorOf, pointOf, rectangleOf, bitmapOf, segmentOf, drawingOf, actionOf}
 use Rattle.store.specs.Store.{Room, Put, keptAt}
-use Rattle.store.specs.Writing.{written, maskNumbers, inkNumbers, bitmapNumbers, areaPlaces, drawingNumbers, drawingPlaces, numbersOf, placesOf}
+use Rattle.store.specs.Writing.{written, maskNumbers, inkNumbers, bitmapNumbers, segmentNumbers, areaPlaces, drawingNumbers, drawingPlaces, numbersOf, placesOf}
 use Rattle.store.proofs.Parts.{written-all, written-long, lent, lent-long, replaced, replaced-here, replaced-before, replaced-long}
 
 ink-back : (masks : Masks) (kind : ℕ) (ink : Ink) (more ns : List ℕ) → inkOf ((maskNumbers masks ++ (kind ∷ inkNumbers ink ++ more)) ++ ns) ≡ ink
@@ -24,7 +24,7 @@ ink-back masks kind ink more ns =
 
 drawing-back : (masks : Masks) (area : Area) (drawing : Drawing) (ns ps : List ℕ)
     → drawingOf ((maskNumbers masks ++ drawingNumbers drawing) ++ ns) ((areaPlaces area ++ drawingPlaces drawing) ++ ps) ≡ drawing
-unfolding drawingOf clearOf pointOf rectangleOf bitmapOf
+unfolding drawingOf clearOf pointOf rectangleOf bitmapOf segmentOf
 drawing-back masks area (d.Clear clear) ns ps = refl
 drawing-back masks area (d.Point point ink) ns ps =
     ap (λ i. d.Point point i) (ink-back masks 1 ink (point .size ∷ []) ns)
@@ -32,6 +32,8 @@ drawing-back masks area (d.Rectangle rectangle ink) ns ps =
     ap (λ i. d.Rectangle rectangle i) (ink-back masks 2 ink (rectangle .width ∷ []) ns)
 drawing-back masks area (d.Bitmap bitmap ink) ns ps =
     rw format-of (ap (λ i. d.Bitmap bitmap i) (ink-back masks 3 ink (bitmapNumbers bitmap) ns))
+drawing-back masks area (d.Segment segment ink) ns ps =
+    ap (λ i. d.Segment segment i) (ink-back masks 4 ink (segmentNumbers segment) ns)
 
 -- whatever stands behind
 pub action-back : (action : Action) (ns ps : List ℕ) → actionOf (numbersOf action ++ ns) (placesOf action ++ ps) ≡ action
@@ -44,6 +46,7 @@ drawing-fits masks area (d.Clear clear) = (lit≤ tt, lit≤ tt)
 drawing-fits masks area (d.Point point ink) = (lit≤ tt, lit≤ tt)
 drawing-fits masks area (d.Rectangle rectangle ink) = (lit≤ tt, lit≤ tt)
 drawing-fits masks area (d.Bitmap bitmap ink) = (lit≤ tt, lit≤ tt)
+drawing-fits masks area (d.Segment segment ink) = (lit≤ tt, lit≤ tt)
 
 pub action-fits : (action : Action) → (length (numbersOf action) ≤ 25) × (length (placesOf action) ≤ 8)
 unfolding numbersOf placesOf

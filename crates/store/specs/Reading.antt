@@ -1,6 +1,6 @@
 -- What the 25 numbers and 8 places of one kept action say. How they lie is the crate's own choice; src/lib.rt has the table.
 -- Values keep their width, so nothing is lost, and a case of an enum is kept as the number that the guide's tables give it.
-use Prim.Native.Nat.{ℕ}
+use Prim.Native.Nat.{ℕ, suc}
 use mathlib.Core.Bool.{cond}
 use mathlib.Core.List.{List}
 use lib.Dec.{eqb}
@@ -16,8 +16,10 @@ use Rattle.action.specs.declared.ink.Ink.{Ink}
 use Rattle.action.specs.declared.ink.Masks.{Masks}
 use Rattle.action.specs.declared.shape.Area.{Area}
 use Rattle.action.specs.declared.shape.Bitmap.{Bitmap}
+use Rattle.action.specs.declared.shape.End.{End}
 use Rattle.action.specs.declared.shape.Point.{Point}
 use Rattle.action.specs.declared.shape.Rectangle.{Rectangle}
+use Rattle.action.specs.declared.shape.Segment.{Segment}
 
 -- the i-th number or place
 abbrev pub at : List ℕ → ℕ → ℕ
@@ -93,13 +95,21 @@ bitmapOf ns ps =
       height = at ns 24;
     }
 
--- by the kind: 0 a clear, 1 a point, 2 a rectangle, any other a bitmap
+-- an end lies in two places
+abbrev pub endAt : List ℕ → ℕ → End
+endAt ps i = record { x = sixteenthsAt ps i; y = sixteenthsAt ps (suc i) }
+
+unfoldable pub segmentOf : List ℕ → List ℕ → Segment
+segmentOf ns ps = record { from = endAt ps 4; to = endAt ps 6; width = at ns 21; primitive = at ns 22 }
+
+-- by the kind: 0 a clear, 1 a point, 2 a rectangle, 3 a bitmap, any other a segment
 unfoldable pub drawingOf : List ℕ → List ℕ → Drawing
 drawingOf ns ps =
     cond (eqb (at ns 6) 0) (d.Clear (clearOf ns))
     (cond (eqb (at ns 6) 1) (d.Point (pointOf ns ps) (inkOf ns))
     (cond (eqb (at ns 6) 2) (d.Rectangle (rectangleOf ns ps) (inkOf ns))
-    (d.Bitmap (bitmapOf ns ps) (inkOf ns))))
+    (cond (eqb (at ns 6) 3) (d.Bitmap (bitmapOf ns ps) (inkOf ns))
+    (d.Segment (segmentOf ns ps) (inkOf ns)))))
 
 unfoldable pub actionOf : List ℕ → List ℕ → Action
 actionOf ns ps = record { scissor = scissorOf ps; masks = masksOf ns; drawing = drawingOf ns ps }

@@ -13,6 +13,7 @@ use Rattle.action.specs.declared.shape.Area.{Area}
 use Rattle.action.specs.declared.shape.Bitmap.{Bitmap}
 use Rattle.action.specs.declared.shape.Point.{Point}
 use Rattle.action.specs.declared.shape.Rectangle.{Rectangle}
+use Rattle.action.specs.declared.shape.Segment.{Segment}
 
 -- a list after some values were stored in it, one after the other from the i-th place on
 abbrev pub written : ℕ → List ℕ → List ℕ → List ℕ
@@ -56,6 +57,9 @@ inkNumbers i =
 abbrev pub bitmapNumbers : Bitmap → List ℕ
 bitmapNumbers b = b .start ∷ formatNumber (b .format) ∷ b .stride ∷ b .height ∷ []
 
+abbrev pub segmentNumbers : Segment → List ℕ
+segmentNumbers s = s .width ∷ s .primitive ∷ []
+
 abbrev pub areaPlaces : Area → List ℕ
 areaPlaces a = a .left .0 ∷ a .top .0 ∷ a .right .0 ∷ a .bottom .0 ∷ []
 
@@ -65,18 +69,23 @@ pointPlaces p = p .x .0 ∷ p .y .0 ∷ []
 abbrev pub rectanglePlaces : Rectangle → List ℕ
 rectanglePlaces r = r .left .0 ∷ r .top .0 ∷ r .right .0 ∷ r .bottom .0 ∷ []
 
+abbrev pub segmentPlaces : Segment → List ℕ
+segmentPlaces s = s .from .x .0 ∷ s .from .y .0 ∷ s .to .x .0 ∷ s .to .y .0 ∷ []
+
 -- the kind, and what follows it
 abbrev pub drawingNumbers : Drawing → List ℕ
 drawingNumbers (d.Clear clear) = 0 ∷ clearNumbers clear
 drawingNumbers (d.Point point ink) = 1 ∷ inkNumbers ink ++ (point .size ∷ [])
 drawingNumbers (d.Rectangle rectangle ink) = 2 ∷ inkNumbers ink ++ (rectangle .width ∷ [])
 drawingNumbers (d.Bitmap bitmap ink) = 3 ∷ inkNumbers ink ++ bitmapNumbers bitmap
+drawingNumbers (d.Segment segment ink) = 4 ∷ inkNumbers ink ++ segmentNumbers segment
 
 abbrev pub drawingPlaces : Drawing → List ℕ
 drawingPlaces (d.Clear clear) = []
 drawingPlaces (d.Point point ink) = pointPlaces point
 drawingPlaces (d.Rectangle rectangle ink) = rectanglePlaces rectangle
 drawingPlaces (d.Bitmap bitmap ink) = areaPlaces (bitmap .area)
+drawingPlaces (d.Segment segment ink) = segmentPlaces segment
 
 unfoldable pub numbersOf : Action → List ℕ
 numbersOf a = maskNumbers (a .masks) ++ drawingNumbers (a .drawing)

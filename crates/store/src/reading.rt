@@ -1,7 +1,7 @@
 // An action out of its own numbers and places.
 ghost use mathlib.Core.Path.{_≡_};
 ghost use lib.ListN.{length};
-ghost use Rattle.store.specs.Reading.{masksOf, clearOf, inkOf, scissorOf, pointOf, rectangleOf, bitmapOf, drawingOf, actionOf};
+ghost use Rattle.store.specs.Reading.{masksOf, clearOf, inkOf, scissorOf, pointOf, rectangleOf, bitmapOf, segmentOf, drawingOf, actionOf};
 use action::Action;
 use action::AlphaTest;
 use action::Area;
@@ -11,12 +11,14 @@ use action::Clear;
 use action::ClearValues;
 use action::Colour;
 use action::Drawing;
+use action::End;
 use action::Factor;
 use action::Format;
 use action::Ink;
 use action::Masks;
 use action::Point;
 use action::Rectangle;
+use action::Segment;
 use action::StencilAction;
 use action::StencilActions;
 use action::StencilTest;
@@ -150,6 +152,26 @@ fn bitmap_in(numbers: &[u32], places: &[u64]) -> Bitmap
     }
 }
 
+fn segment_in(numbers: &[u32], places: &[u64]) -> Segment
+    requires { ⌜ (length (now numbers) ≡ 25) × (length (now places) ≡ 8) ⌝ }
+    ensures { λ r. ⌜ r ≡ segmentOf (now (numbers .entry)) (now (places .entry)) ⌝ }
+{
+    let from = End {
+        x: Sixteenths(places[4]),
+        y: Sixteenths(places[5]),
+    };
+    let to = End {
+        x: Sixteenths(places[6]),
+        y: Sixteenths(places[7]),
+    };
+    Segment {
+        from: from,
+        to: to,
+        width: numbers[21],
+        primitive: numbers[22],
+    }
+}
+
 fn drawing_in(numbers: &[u32], places: &[u64]) -> Drawing
     requires { ⌜ (length (now numbers) ≡ 25) × (length (now places) ≡ 8) ⌝ }
     ensures { λ r. ⌜ r ≡ drawingOf (now (numbers .entry)) (now (places .entry)) ⌝ }
@@ -165,7 +187,10 @@ fn drawing_in(numbers: &[u32], places: &[u64]) -> Drawing
     if kind == 2 {
         return Drawing::Rectangle(rectangle_in(numbers, places), ink);
     }
-    Drawing::Bitmap(bitmap_in(numbers, places), ink)
+    if kind == 3 {
+        return Drawing::Bitmap(bitmap_in(numbers, places), ink);
+    }
+    Drawing::Segment(segment_in(numbers, places), ink)
 }
 
 pub fn action_in(numbers: &[u32], places: &[u64]) -> Action

@@ -12,6 +12,7 @@ use action::Ink;
 use action::Masks;
 use action::Point;
 use action::Rectangle;
+use action::Segment;
 
 fn put_masks(masks: Masks, numbers: &mut [u32])
     requires { ⌜ length (now numbers) ≡ 25 ⌝ }
@@ -127,6 +128,22 @@ fn put_bitmap(bitmap: Bitmap, ink: Ink, numbers: &mut [u32], places: &mut [u64])
     places[7] = area.bottom.0;
 }
 
+fn put_segment(segment: Segment, ink: Ink, numbers: &mut [u32], places: &mut [u64])
+    requires { ⌜ (length (now numbers) ≡ 25) × (length (now places) ≡ 8) ⌝ }
+    ensures { λ _. ⌜ now (numbers .exit) ≡ written 6 (now (numbers .entry)) (drawingNumbers (Drawing.Segment segment ink)) ⌝ }
+    ensures { λ _. ⌜ now (places .exit) ≡ written 4 (now (places .entry)) (drawingPlaces (Drawing.Segment segment ink)) ⌝ }
+{
+    let from = segment.from;
+    let to = segment.to;
+    put_ink(4, ink, numbers);
+    numbers[21] = segment.width;
+    numbers[22] = segment.primitive;
+    places[4] = from.x.0;
+    places[5] = from.y.0;
+    places[6] = to.x.0;
+    places[7] = to.y.0;
+}
+
 fn put_drawing(drawing: Drawing, numbers: &mut [u32], places: &mut [u64])
     requires { ⌜ (length (now numbers) ≡ 25) × (length (now places) ≡ 8) ⌝ }
     ensures { λ _. ⌜ now (numbers .exit) ≡ written 6 (now (numbers .entry)) (drawingNumbers drawing) ⌝ }
@@ -137,6 +154,7 @@ fn put_drawing(drawing: Drawing, numbers: &mut [u32], places: &mut [u64])
         Drawing::Point(point, ink) => put_point(point, ink, numbers, places),
         Drawing::Rectangle(rectangle, ink) => put_rectangle(rectangle, ink, numbers, places),
         Drawing::Bitmap(bitmap, ink) => put_bitmap(bitmap, ink, numbers, places),
+        Drawing::Segment(segment, ink) => put_segment(segment, ink, numbers, places),
     }
 }
 

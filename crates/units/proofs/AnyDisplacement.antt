@@ -33,13 +33,46 @@ floor-meant d s =
     (λ h. rw (sub-below (s / 16) d (omega arith)) (ap negsuc (omega arith)))
     (λ h. rw (sub-from (s / 16) d (omega arith)) (ap pos (omega arith)))
 
-pub sample-meant : (d p : ℕ) → subℕ (16 * p) (16 * d) ≡ pos 16 *ℤ subℕ p d
-sample-meant d p =
-    by-side p d (λ (z : ℤ). subℕ (16 * p) (16 * d) ≡ pos 16 *ℤ z)
+-- the product of a kept number, and the sum of two, are kept with a product and a sum of displacements
+pub times-meant : (k d a : ℕ) → subℕ (k * a) (k * d) ≡ pos k *ℤ subℕ a d
+times-meant k d a =
+    by-side a d (λ (z : ℤ). subℕ (k * a) (k * d) ≡ pos k *ℤ z)
+    (λ h. below k (d - suc a) (omega arith))
+    (λ h. from (a - d) (omega arith))
+  where
+    below : (k j : ℕ) → d ≡ a + suc j → subℕ (k * a) (k * d) ≡ negℤ (pos (k * suc j))
+    below zero j e =
+        let f : 0 * a ≡ 0 = omega arith in
+        let g : 0 * d ≡ 0 = omega arith in
+        let h : 0 * suc j ≡ 0 = omega arith in
+        rw (f, g, h)
+    below (suc k) j e =
+        let f : suc k * d ≡ suc k * a + suc k * suc j = rw e (omega arith) in
+        let g : suc k * suc j ≡ suc (suc k * d - suc (suc k * a)) = omega arith in
+        rw (sub-below (suc k * a) (suc k * d) (omega arith), g)
+
+    from : (j : ℕ) → a ≡ d + j → subℕ (k * a) (k * d) ≡ pos (k * j)
+    from j e =
+        let f : k * a ≡ k * d + k * j = rw e (omega arith) in
+        sub-from (k * a) (k * d) (omega arith) ∙ ap pos (omega arith)
+
+sub-same : (a b c d : ℕ) → a + d ≡ c + b → subℕ a b ≡ subℕ c d
+sub-same a b c d e =
+    by-side a b (λ (z : ℤ). z ≡ subℕ c d)
+    (λ h. sym (sub-below c d (omega arith) ∙ ap negsuc (omega arith)))
+    (λ h. sym (sub-from c d (omega arith) ∙ ap pos (omega arith)))
+
+pub sum-meant : (a b d e : ℕ) → subℕ a d +ℤ subℕ b e ≡ subℕ (a + b) (d + e)
+sum-meant a b d e =
+    by-side a d (λ (z : ℤ). z +ℤ subℕ b e ≡ subℕ (a + b) (d + e))
     (λ h.
-    let e : 16 * suc (d - suc p) ≡ suc (16 * d - suc (16 * p)) = omega arith in
-    rw (sub-below (16 * p) (16 * d) (omega arith), e))
-    (λ h. rw (sub-from (16 * p) (16 * d) (omega arith)) (ap pos (omega arith)))
+    by-side b e (λ (z : ℤ). negsuc (d - suc a) +ℤ z ≡ subℕ (a + b) (d + e))
+    (λ k. sym (sub-below (a + b) (d + e) (omega arith) ∙ ap negsuc (omega arith)))
+    (λ k. sub-same (b - e) (suc (d - suc a)) (a + b) (d + e) (omega arith)))
+    (λ h.
+    by-side b e (λ (z : ℤ). pos (a - d) +ℤ z ≡ subℕ (a + b) (d + e))
+    (λ k. sub-same (a - d) (suc (e - suc b)) (a + b) (d + e) (omega arith))
+    (λ k. sym (sub-from (a + b) (d + e) (omega arith) ∙ ap pos (omega arith))))
 
 abs-sub : (m n : ℕ) → natAbs (subℕ m n) ≡ (m - n) + (n - m)
 abs-sub m n =
@@ -64,6 +97,13 @@ apart-meant d a b =
     by-side b d (λ (z : ℤ). natAbs (pos (a - d) -ℤ z) ≡ (a - b) + (b - a))
     (λ k. omega arith)
     (λ k. abs-pos (a - d) (b - d) ∙ omega arith))
+
+-- from a number to the mean of two others by the weights k and n, times k + n
+pub mean-meant : (d k n a b s : ℕ) → natAbs (pos (k + n) *ℤ subℕ s d -ℤ (pos k *ℤ subℕ a d +ℤ pos n *ℤ subℕ b d)) ≡ ((k + n) * s - (k * a + n * b)) + ((k * a + n * b) - (k + n) * s)
+mean-meant d k n a b s =
+    let e : k * d + n * d ≡ (k + n) * d = omega arith in
+    let f : pos k *ℤ subℕ a d +ℤ pos n *ℤ subℕ b d ≡ subℕ (k * a + n * b) ((k + n) * d) = rw (← times-meant k d a, ← times-meant n d b, sum-meant (k * a) (n * b) (k * d) (n * d), e) in
+    rw (f, ← times-meant (k + n) d s) (apart-meant ((k + n) * d) ((k + n) * s) (k * a + n * b))
 
 -- two kept numbers that mean the same are the same
 pub meant-once : (d a b : ℕ) → subℕ a d ≡ subℕ b d → a ≡ b

@@ -10,7 +10,7 @@ use borrow.Author.Tests.{ltb-true, ltb-false}
 use Rattle.units.specs.Units.{displacement, meantPixels, meantSixteenths, distance, pixelAt, sixteenthAt, floored, furtherOn, sampled, spaced, leastOf, mostOf, Movable, noShift, meantShift, shiftAt, ShiftOf, PixelOf, FurtherOn, SixteenthOf, MovedBy, Holds, SampledAt, ApartBy}
 use Rattle.units.specs.declared.Pixels.{Pixels}
 use Rattle.units.specs.declared.Sixteenths.{Sixteenths}
-use Rattle.units.proofs.AnyDisplacement.{nearby, meant-once, pixel-meant, moved-meant, origin-meant, meant-kept, floor-meant, sample-meant, apart-meant, order-meant, counted-most, counted-sum}
+use Rattle.units.proofs.AnyDisplacement.{nearby, meant-once, pixel-meant, moved-meant, origin-meant, meant-kept, floor-meant, times-meant, mean-meant, apart-meant, order-meant, counted-most, counted-sum}
 
 pub pixel-at : (n : ℕ) → PixelOf n (pixelAt n)
 unfolding meantPixels
@@ -58,7 +58,7 @@ floored-holds s = record { kept = refl; meant = floor-meant displacement (s .0) 
 
 pub sampled-at : (p : Pixels) → SampledAt p (sampled p)
 unfolding meantPixels meantSixteenths
-sampled-at p = record { kept = refl; meant = sample-meant displacement (p .0) }
+sampled-at p = record { kept = refl; meant = times-meant 16 displacement (p .0) }
 
 pub apart-by : {d : ℕ} (a b : Sixteenths) → d ≡ spaced a b → ApartBy a b d
 unfolding meantSixteenths distance
@@ -130,3 +130,8 @@ least-meant a b =
 pub most-meant : (a b : Sixteenths) → (meantSixteenths a ≤ℤ meantSixteenths (mostOf a b)) × (meantSixteenths b ≤ℤ meantSixteenths (mostOf a b))
 most-meant a b =
     (in-order _ _ (most-kept a b .0), in-order _ _ (most-kept a b .1))
+
+-- the mean of two positions by two weights, as kept and as meant
+pub mean-apart : (k n : ℕ) (a b s : Sixteenths) → distance (pos (k + n) *ℤ meantSixteenths s) (pos k *ℤ meantSixteenths a +ℤ pos n *ℤ meantSixteenths b) ≡ spaced (record { 0 = (k + n) * s .0 }) (record { 0 = k * a .0 + n * b .0 })
+unfolding distance meantSixteenths
+mean-apart k n a b s = mean-meant (16 * displacement) k n (a .0) (b .0) (s .0)

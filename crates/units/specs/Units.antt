@@ -3,9 +3,9 @@
 -- "Pixel (p, q) is sampled at (16p, 16q).", "Dividing a negative vertex towards zero: -1 sixteenth lies in pixel -1."
 -- A position left of the screen or above it is negative, and a kept number never is: it is counted from an origin far up and left.
 use mathlib.Core.Path.{_≡_}
-use mathlib.Core.Bool.{cond}
+use mathlib.Core.Bool.{Bool, cond, _&&_}
 use Prim.Native.Nat.{ℕ, _+_, _-_, _*_, _/_, _<_, _≤_, _^_}
-use lib.Dec.{ltb}
+use lib.Dec.{leb, ltb}
 use lib.IntN.{ℤ, pos, negsuc, _+ℤ_, _-ℤ_, _*ℤ_, natAbs}
 use lib.Signed.{_≤ℤ_, _<ℤ_}
 use Rattle.units.specs.declared.Pixels.{Pixels}
@@ -79,6 +79,16 @@ leastOf a b = cond (ltb (b .0) (a .0)) b a
 
 unfoldable pub mostOf : Sixteenths → Sixteenths → Sixteenths
 mostOf a b = cond (ltb (a .0) (b .0)) b a
+
+-- Wish 1 of document 02: "-32768..32767 sixteenths", as kept; a position there is called short
+abbrev pub shortFrom : ℕ
+shortFrom = 16 * displacement - 2 ^ 15
+
+abbrev pub shortTo : ℕ
+shortTo = 16 * displacement + 2 ^ 15
+
+unfoldable pub isShort : Sixteenths → Bool
+isShort s = leb shortFrom (s .0) && ltb (s .0) shortTo
 
 -- The contracts. Each says which number is kept, for whoever computes with it, and what that number means.
 pub record PixelOf (n : ℕ) (p : Pixels) : Type 0 where

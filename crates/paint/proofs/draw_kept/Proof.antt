@@ -1,4 +1,4 @@
-use Rattle.paint.proofs.Banding.{drawn-outside}
+use Rattle.paint.proofs.Banding.{drawn-outside, row-in-frame}
 use Rattle.paint.proofs.draw_kept.Statement.{statement}
 use Rattle.units.proofs.Meaning.{pixels-at}
 use borrow.Author.Needs.{needs}
@@ -33,7 +33,9 @@ of-requires : tie.Need-of-requires
 of-requires c κs = search needs
 
 draw-requires : tie.Need-draw-requires
-draw-requires c κs = (omega (arith, c .before .before .before .before .of .ensures .kept, c .before .before .before .before .before .before .before .before .before .before .before .before .before .before .before .before .before .pre .0 .0), c .before .before .before .before .before .before .before .before .before .before .before .before .before .before .before .before .before .pre .0 .1)
+draw-requires c κs =
+    let p = c .before .before .before .before .before .before .before .before .before .before .before .before .before .before .before .before .before .pre .0 in
+    (row-in-frame (p .1 .1 .1 .1 .1) (p .0) (c .before .before .before .before .of .ensures), p .1)
 
 same-length : tie.Need-same-length
 same-length c = search needs

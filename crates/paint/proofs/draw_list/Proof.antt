@@ -1,4 +1,5 @@
 use Rattle.engine.specs.Run.{atStart, run}
+use Rattle.paint.proofs.Banding.{row-in-frame}
 use Rattle.paint.proofs.Folds.{Rest, rest-less, rest-none}
 use Rattle.paint.proofs.Going.{actionsFrom, fewer, next-action, no-action, none-allowed}
 use Rattle.paint.proofs.Sweeps.{SameLong, same-more, same-none, still-there}
@@ -37,7 +38,9 @@ of-requires : tie.Need-of-requires Inv-loop μ-loop
 of-requires c κs = tt
 
 draw-requires : tie.Need-draw-requires Inv-loop μ-loop
-draw-requires c κs = (omega (arith, c .before .before .before .before .of .ensures .kept, c .before .before .before .before .before .before .before .before .before .before .before .before .before .before .before .before .before .before .before .before .pre .1 .0), still-there (c .before .before .before .before .before .before .before .before .before .before .before .before .loop .inv .0) _ (c .before .before .before .before .before .before .before .before .before .before .before .before .before .before .before .before .before .before .before .before .pre .1 .1))
+draw-requires c κs =
+    let p = c .before .before .before .before .before .before .before .before .before .before .before .before .before .before .before .before .before .before .before .before .pre .1 in
+    (row-in-frame (p .1 .1 .1 .1 .1) (p .0) (c .before .before .before .before .of .ensures), still-there (c .before .before .before .before .before .before .before .before .before .before .before .before .loop .inv .0) _ (p .1))
 
 loop-less : tie.Need-loop-less Inv-loop μ-loop
 loop-less c = fewer (c .before .before .before .before .before .before .before .before .before .before .before .before .before .before .before .before .before .before .advance .ensures) _ (c .before .before .before .before .before .before .before .before .before .before .before .before .before .before .before .find .given .1)

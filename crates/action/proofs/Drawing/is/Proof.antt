@@ -26,6 +26,12 @@ enum-known-self-4 c = search needs
 is-bitmap-requires : tie.Need-is-bitmap-requires
 is-bitmap-requires c κs = search needs
 
+enum-known-self-5 : tie.Need-enum-known-self-5
+enum-known-self-5 c = search needs
+
+is-segment-requires : tie.Need-is-segment-requires
+is-segment-requires c κs = search needs
+
 returns : tie.Need-returns
 returns c = rw (c .before .before .self .given .1) (c .is-clear .ensures)
 
@@ -37,6 +43,9 @@ returns-3 c = rw (c .before .before .self3 .given .1) (c .is-rectangle .ensures)
 
 returns-4 : tie.Need-returns-4
 returns-4 c = rw (c .before .before .self4 .given .1) (c .is-bitmap .ensures)
+
+returns-5 : tie.Need-returns-5
+returns-5 c = rw (c .before .before .self5 .given .1) (c .is-segment .ensures)
 
 pub is-spec : {M : Type 1} → statement M
 is-spec =
@@ -50,7 +59,10 @@ is-spec =
     is-rectangle-requires
     enum-known-self-4
     is-bitmap-requires
+    enum-known-self-5
+    is-segment-requires
     returns
     returns-2
     returns-3
-    returns-4)
+    returns-4
+    returns-5)

@@ -19,7 +19,7 @@ returns c =
     (tells-as (λ e. ap d.Clear e) (λ e. cc) (c .is .ensures))
 
 returns-2 : tie.Need-returns-2
-returns-2 c = tells-no (λ e. miss (1 ∷ 2 ∷ 3 ∷ []) 0 tt (rw (← e) at (c .match .keys2)))
+returns-2 c = tells-no (λ e. miss (1 ∷ 2 ∷ 3 ∷ 4 ∷ []) 0 tt (rw (← e) at (c .match .keys2)))
 
 pub is-clear-spec : {M : Type 1} → statement M
 is-clear-spec = tie.close (tie.spec enum-known-self is-requires returns returns-2)

@@ -22,7 +22,7 @@ returns c =
     (tells-as (λ e. ap (λ p. d.Rectangle (p .0) (p .1)) e) (λ e. cc) (c .before .is .ensures beside c .is2 .ensures))
 
 returns-2 : tie.Need-returns-2
-returns-2 c = tells-no (λ e. miss (0 ∷ 1 ∷ 3 ∷ []) 2 tt (rw (← e) at (c .match .keys2)))
+returns-2 c = tells-no (λ e. miss (0 ∷ 1 ∷ 3 ∷ 4 ∷ []) 2 tt (rw (← e) at (c .match .keys2)))
 
 pub is-rectangle-spec : {M : Type 1} → statement M
 is-rectangle-spec = tie.close (tie.spec enum-known-self is-requires is-requires-2 returns returns-2)

@@ -27,6 +27,12 @@ enum-known-shape-4 c = search needs
 ink-requires-3 : tie.Need-ink-requires-3
 ink-requires-3 c κs = search needs
 
+enum-known-shape-5 : tie.Need-enum-known-shape-5
+enum-known-shape-5 c = search needs
+
+ink-requires-4 : tie.Need-ink-requires-4
+ink-requires-4 c κs = search needs
+
 returns : tie.Need-returns
 unfolding drawingOf
 returns c = rw (c .clear .ensures, c .before .before .shape .given .1)
@@ -43,6 +49,10 @@ returns-4 : tie.Need-returns-4
 unfolding drawingOf
 returns-4 c = rw (c .ink3 .ensures, c .before .before .shape4 .given .1)
 
+returns-5 : tie.Need-returns-5
+unfolding drawingOf
+returns-5 c = rw (c .ink4 .ensures, c .before .before .shape5 .given .1)
+
 pub draw-spec : {M : Type 1} → statement M
 draw-spec =
     tie.close
@@ -55,7 +65,10 @@ draw-spec =
     ink-requires-2
     enum-known-shape-4
     ink-requires-3
+    enum-known-shape-5
+    ink-requires-4
     returns
     returns-2
     returns-3
-    returns-4)
+    returns-4
+    returns-5)

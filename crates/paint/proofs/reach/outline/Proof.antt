@@ -19,6 +19,9 @@ enum-known-drawing-3 c = search needs
 enum-known-drawing-4 : tie.Need-enum-known-drawing-4
 enum-known-drawing-4 c = search needs
 
+enum-known-drawing-5 : tie.Need-enum-known-drawing-5
+enum-known-drawing-5 c = search needs
+
 returns : tie.Need-returns
 unfolding outlineOf
 returns c = rw (c .before .before .before .drawing .given .1, sym (c .before .is-any .ensures) ∙ c .if1 .taken)
@@ -39,6 +42,10 @@ returns-5 : tie.Need-returns-5
 unfolding outlineOf
 returns-5 c = rw (c .before .before .drawing4 .given .1)
 
+returns-6 : tie.Need-returns-6
+unfolding outlineOf
+returns-6 c = rw (c .before .drawing5 .given .1)
+
 pub outline-spec : {M : Type 1} → statement M
 outline-spec =
     tie.close
@@ -48,8 +55,10 @@ outline-spec =
     enum-known-drawing-2
     enum-known-drawing-3
     enum-known-drawing-4
+    enum-known-drawing-5
     returns
     returns-2
     returns-3
     returns-4
-    returns-5)
+    returns-5
+    returns-6)

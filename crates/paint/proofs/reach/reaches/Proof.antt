@@ -1,3 +1,4 @@
+use Rattle.paint.proofs.Banding.{row-in-frame}
 use Rattle.units.proofs.Meaning.{pixels-at}
 use Rattle.paint.proofs.reach.reaches.Statement.{statement}
 use Rattle.paint.proofs.reach.reaches.Tie as tie
@@ -10,7 +11,7 @@ of-requires : tie.Need-of-requires
 of-requires c κs = search needs
 
 reaches-requires : tie.Need-reaches-requires
-reaches-requires c κs = search needs
+reaches-requires c κs = row-in-frame (c .before .before .before .pre .0) (c .before .before .before .pre .1) (c .of .ensures)
 
 returns : tie.Need-returns
 returns c = rw (c .reaches .ensures, pixels-at (c .before .of .ensures), c .before .before .outline .ensures)

@@ -1,7 +1,8 @@
+use borrow.Author.Needs.{needs}
+use mathlib.Core.Logic.{⊎-elim}
 use Rattle.paint.proofs.row.draw_columns.Statement.{statement}
 use Rattle.paint.specs.Picture.{changed}
 use Rattle.paint.specs.Runs.{texelIn}
-use borrow.Author.Needs.{needs}
 use Rattle.paint.proofs.row.draw_columns.Tie as tie
 
 enum-known-drawing : tie.Need-enum-known-drawing
@@ -13,29 +14,26 @@ clear-columns-requires c κs = search needs
 enum-known-drawing-2 : tie.Need-enum-known-drawing-2
 enum-known-drawing-2 c = search needs
 
-plain-requires : tie.Need-plain-requires
-plain-requires c κs = search needs
-
-ink-columns-requires : tie.Need-ink-columns-requires
-ink-columns-requires c κs = search needs
-
 enum-known-drawing-3 : tie.Need-enum-known-drawing-3
 enum-known-drawing-3 c = search needs
-
-plain-requires-2 : tie.Need-plain-requires-2
-plain-requires-2 c κs = search needs
-
-ink-columns-requires-2 : tie.Need-ink-columns-requires-2
-ink-columns-requires-2 c κs = search needs
 
 enum-known-drawing-4 : tie.Need-enum-known-drawing-4
 enum-known-drawing-4 c = search needs
 
+enum-known-drawing-5 : tie.Need-enum-known-drawing-5
+enum-known-drawing-5 c = search needs
+
 textured-requires : tie.Need-textured-requires
 textured-requires c κs = search needs
 
-ink-columns-requires-3 : tie.Need-ink-columns-requires-3
-ink-columns-requires-3 c κs = search needs
+ink-columns-requires : tie.Need-ink-columns-requires
+ink-columns-requires c κs = search needs
+
+plain-requires : tie.Need-plain-requires
+plain-requires c κs = search needs
+
+ink-columns-requires-2 : tie.Need-ink-columns-requires-2
+ink-columns-requires-2 c κs = search needs
 
 same-length : tie.Need-same-length
 same-length c = search needs
@@ -67,7 +65,7 @@ same-length-8 c = search needs
 
 returns-2 : tie.Need-returns-2
 unfolding changed texelIn
-returns-2 c = rw (c .before .before .before .before .before .before .before .before .before .before .before .before .before .before .before .drawing2 .given .1) (rw (c .before .before .before .before .before .before .before .before .before .before .before .before .before .plain .ensures) at (c .before .before .before .before .before .before .before .before .ink-columns .ensures))
+returns-2 c = rw (c .before .before .before .before .before .before .before .before .before .before .before .before .before .before .before .drawing5 .given .1) (rw (c .before .before .before .before .before .before .before .before .before .before .before .before .before .textured .ensures) at (c .before .before .before .before .before .before .before .before .ink-columns .ensures))
 
 same-length-9 : tie.Need-same-length-9
 same-length-9 c = search needs
@@ -83,23 +81,13 @@ same-length-12 c = search needs
 
 returns-3 : tie.Need-returns-3
 unfolding changed texelIn
-returns-3 c = rw (c .before .before .before .before .before .before .before .before .before .before .before .before .before .before .before .drawing3 .given .1) (rw (c .before .before .before .before .before .before .before .before .before .before .before .before .before .plain2 .ensures) at (c .before .before .before .before .before .before .before .before .ink-columns2 .ensures))
-
-same-length-13 : tie.Need-same-length-13
-same-length-13 c = search needs
-
-same-length-14 : tie.Need-same-length-14
-same-length-14 c = search needs
-
-same-length-15 : tie.Need-same-length-15
-same-length-15 c = search needs
-
-same-length-16 : tie.Need-same-length-16
-same-length-16 c = search needs
-
-returns-4 : tie.Need-returns-4
-unfolding changed texelIn
-returns-4 c = rw (c .before .before .before .before .before .before .before .before .before .before .before .before .before .before .before .drawing4 .given .1) (rw (c .before .before .before .before .before .before .before .before .before .before .before .before .before .textured .ensures) at (c .before .before .before .before .before .before .before .before .ink-columns3 .ensures))
+returns-3 c =
+    let plain = c .before .before .before .before .before .before .before .before .before .before .before .before .before .plain .ensures in
+    let drawn = c .before .before .before .before .before .before .before .before .ink-columns2 .ensures in
+    ⊎-elim (λ w. rw (w .1 .given .1) (rw (plain, w .3) at drawn))
+    (⊎-elim (λ w. rw (w .1 .given .1) (rw (plain, w .3) at drawn))
+    (λ w. rw (w .1 .given .1) (rw (plain, w .3) at drawn)))
+    (c .before .before .before .before .before .before .before .before .before .before .before .before .before .before .match .came)
 
 pub draw-columns-spec : {M : Type 1} → statement M
 draw-columns-spec =
@@ -108,14 +96,13 @@ draw-columns-spec =
     enum-known-drawing
     clear-columns-requires
     enum-known-drawing-2
-    plain-requires
-    ink-columns-requires
     enum-known-drawing-3
-    plain-requires-2
-    ink-columns-requires-2
     enum-known-drawing-4
+    enum-known-drawing-5
     textured-requires
-    ink-columns-requires-3
+    ink-columns-requires
+    plain-requires
+    ink-columns-requires-2
     same-length
     same-length-2
     same-length-3
@@ -130,9 +117,4 @@ draw-columns-spec =
     same-length-10
     same-length-11
     same-length-12
-    returns-3
-    same-length-13
-    same-length-14
-    same-length-15
-    same-length-16
-    returns-4)
+    returns-3)

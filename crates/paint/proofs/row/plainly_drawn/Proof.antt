@@ -1,6 +1,7 @@
+use borrow.Author.Needs.{needs}
+use mathlib.Core.Logic.{⊎-elim}
 use Rattle.paint.proofs.row.plainly_drawn.Statement.{statement}
 use Rattle.paint.specs.Picture.{changed}
-use borrow.Author.Needs.{needs}
 use Rattle.paint.proofs.row.plainly_drawn.Tie as tie
 
 enum-known-drawing : tie.Need-enum-known-drawing
@@ -12,32 +13,32 @@ plain-clear-requires c κs = search needs
 enum-known-drawing-2 : tie.Need-enum-known-drawing-2
 enum-known-drawing-2 c = search needs
 
-plain-ink-requires : tie.Need-plain-ink-requires
-plain-ink-requires c κs = search needs
-
 enum-known-drawing-3 : tie.Need-enum-known-drawing-3
 enum-known-drawing-3 c = search needs
 
-plain-ink-requires-2 : tie.Need-plain-ink-requires-2
-plain-ink-requires-2 c κs = search needs
+enum-known-drawing-4 : tie.Need-enum-known-drawing-4
+enum-known-drawing-4 c = search needs
 
 enum-told : tie.Need-enum-told
 enum-told c = search needs
+
+plain-ink-requires : tie.Need-plain-ink-requires
+plain-ink-requires c κs = search needs
 
 returns : tie.Need-returns
 unfolding changed
 returns c = λ memory p q. rw (c .before .before .drawing .given .1) (c .plain-clear .ensures)
 
 returns-2 : tie.Need-returns-2
-unfolding changed
-returns-2 c = λ memory p q. rw (c .before .before .drawing2 .given .1) (c .plain-ink .ensures)
+returns-2 c = search needs
 
 returns-3 : tie.Need-returns-3
 unfolding changed
-returns-3 c = λ memory p q. rw (c .before .before .drawing3 .given .1) (c .plain-ink2 .ensures)
-
-returns-4 : tie.Need-returns-4
-returns-4 c = search needs
+returns-3 c = λ memory p q.
+    ⊎-elim (λ w. rw (w .1 .given .1) (rw (w .3) at (c .plain-ink .ensures)))
+    (⊎-elim (λ w. rw (w .1 .given .1) (rw (w .3) at (c .plain-ink .ensures)))
+    (λ w. rw (w .1 .given .1) (rw (w .3) at (c .plain-ink .ensures))))
+    (c .before .match .came)
 
 pub plainly-drawn-spec : {M : Type 1} → statement M
 plainly-drawn-spec =
@@ -46,11 +47,10 @@ plainly-drawn-spec =
     enum-known-drawing
     plain-clear-requires
     enum-known-drawing-2
-    plain-ink-requires
     enum-known-drawing-3
-    plain-ink-requires-2
+    enum-known-drawing-4
     enum-told
+    plain-ink-requires
     returns
     returns-2
-    returns-3
-    returns-4)
+    returns-3)

@@ -1,4 +1,5 @@
 use mathlib.Core.Path.{_∙_, sym}
+use native.Mathlib.Omega.{arith}
 use borrow.Author.Needs.{needs}
 use Rattle.truth.proofs.Bools.{never}
 use Rattle.repaint.proofs.Sides.{compare-apart, compare-over, compare-same}
@@ -27,7 +28,9 @@ returns-2 c =
     compare-over _ _ (c .before .before .before .before .before .before .before .is-same .ensures .holds (c .before .before .before .before .before .before .if1 .taken)) (sym (c .before .before .before .before .before .is-drawn .ensures) ∙ c .before .before .before .before .if2 .left) (p .0) (p .1) (c .before .before .turn .ensures)
 
 choose-requires : tie.Need-choose-requires
-choose-requires c κs = search needs
+choose-requires c κs =
+    let p = c .before .before .before .pre in
+    (p .1 .1, omega (arith, p .0 .0, p .1 .0))
 
 touched-requires : tie.Need-touched-requires
 touched-requires c κs = search needs

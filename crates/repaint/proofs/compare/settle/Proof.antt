@@ -33,13 +33,17 @@ cast-meets : tie.Need-cast-meets Inv-loop μ-loop
 cast-meets c = omega (arith, c .before .before .before .before .least .ensures, c .before .before .before .before .before .before .pre .1 .0)
 
 meets-requires : tie.Need-meets-requires Inv-loop μ-loop
-meets-requires c κs = search needs
+meets-requires c κs =
+    let p = c .before .before .before .before .before .before .pre .1 in
+    (p .1, omega (arith, c .before .before .before .before .least .ensures, p .0))
 
 cast-meets-2 : tie.Need-cast-meets-2 Inv-loop μ-loop
 cast-meets-2 c = omega (arith, c .before .before .before .before .before .least .ensures, c .before .before .before .before .before .before .before .pre .1 .0)
 
 meets-requires-2 : tie.Need-meets-requires-2 Inv-loop μ-loop
-meets-requires-2 c κs = search needs
+meets-requires-2 c κs =
+    let p = c .before .before .before .before .before .before .before .pre .1 in
+    (p .1, omega (arith, c .before .before .before .before .before .least .ensures, p .0))
 
 stand-requires : tie.Need-stand-requires Inv-loop μ-loop
 stand-requires c κs = search needs

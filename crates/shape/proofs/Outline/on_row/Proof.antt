@@ -36,6 +36,15 @@ enum-known-self-3 c = search needs
 of-area-requires : tie.Need-of-area-requires
 of-area-requires c κs = search needs
 
+enum-known-self-4 : tie.Need-enum-known-self-4
+enum-known-self-4 c = search needs
+
+around-requires : tie.Need-around-requires
+around-requires c κs = search needs
+
+of-rectangle-requires-3 : tie.Need-of-rectangle-requires-3
+of-rectangle-requires-3 c κs = search needs
+
 returns : tie.Need-returns
 returns c = rw (c .before .enum-told .given .1, c .none .ensures) (nothing-has _)
 
@@ -52,6 +61,10 @@ returns-4 c = rw (c .before .before .self2 .given .1) (c .of-rectangle2 .ensures
 returns-5 : tie.Need-returns-5
 returns-5 c = rw (c .before .before .self3 .given .1) (c .of-area .ensures)
 
+returns-6 : tie.Need-returns-6
+returns-6 c =
+    rw (c .before .before .before .self4 .given .1) (rw (c .before .around .ensures) at (c .of-rectangle3 .ensures))
+
 pub on-row-spec : {M : Type 1} → statement M
 on-row-spec =
     tie.close
@@ -67,8 +80,12 @@ on-row-spec =
     of-rectangle-requires-2
     enum-known-self-3
     of-area-requires
+    enum-known-self-4
+    around-requires
+    of-rectangle-requires-3
     returns
     returns-2
     returns-3
     returns-4
-    returns-5)
+    returns-5
+    returns-6)

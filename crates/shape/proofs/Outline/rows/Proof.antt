@@ -1,5 +1,6 @@
 use borrow.Author.Needs.{needs}
 use Rattle.shape.proofs.Columns.{nothing-rows, everything-rows, point-rows, area-rows}
+use Rattle.shape.proofs.Narrowing.{segment-rows}
 use Rattle.shape.proofs.Outline.rows.Statement.{statement}
 use Rattle.shape.proofs.Outline.rows.Tie as tie
 
@@ -27,6 +28,15 @@ of-rectangle-requires-2 c κs = search needs
 enum-known-self-3 : tie.Need-enum-known-self-3
 enum-known-self-3 c = search needs
 
+enum-known-self-4 : tie.Need-enum-known-self-4
+enum-known-self-4 c = search needs
+
+around-requires : tie.Need-around-requires
+around-requires c κs = search needs
+
+of-rectangle-requires-3 : tie.Need-of-rectangle-requires-3
+of-rectangle-requires-3 c κs = search needs
+
 returns : tie.Need-returns
 returns c = rw (c .enum-told .given .1) (nothing-rows _)
 
@@ -43,6 +53,10 @@ returns-4 c = rw (c .before .before .self2 .given .1) (c .of-rectangle2 .ensures
 returns-5 : tie.Need-returns-5
 returns-5 c = rw (c .before .before .before .self3 .given .1) (area-rows _)
 
+returns-6 : tie.Need-returns-6
+returns-6 c =
+    rw (c .before .before .before .self4 .given .1) (segment-rows _ _ (rw (c .before .around .ensures) at (c .of-rectangle3 .ensures)))
+
 pub rows-spec : {M : Type 1} → statement M
 rows-spec =
     tie.close
@@ -55,8 +69,12 @@ rows-spec =
     enum-known-self-2
     of-rectangle-requires-2
     enum-known-self-3
+    enum-known-self-4
+    around-requires
+    of-rectangle-requires-3
     returns
     returns-2
     returns-3
     returns-4
-    returns-5)
+    returns-5
+    returns-6)

@@ -36,7 +36,14 @@ bitmap-in-requires c κs = search needs
 
 returns-4 : tie.Need-returns-4
 unfolding drawingOf
-returns-4 c = rw (ne-eqb _ _ (c .before .before .before .before .if1 .left), ne-eqb _ _ (c .before .before .if2 .left), ne-eqb _ _ (c .before .if3 .left), c .bitmap-in .ensures, c .before .before .before .ink-in .ensures)
+returns-4 c = rw (ne-eqb _ _ (c .before .before .before .before .before .if1 .left), ne-eqb _ _ (c .before .before .before .if2 .left), ne-eqb _ _ (c .before .before .if3 .left), eq-eqb _ _ (c .before .if4 .taken), c .bitmap-in .ensures, c .before .before .before .before .ink-in .ensures)
+
+segment-in-requires : tie.Need-segment-in-requires
+segment-in-requires c κs = search needs
+
+returns-5 : tie.Need-returns-5
+unfolding drawingOf
+returns-5 c = rw (ne-eqb _ _ (c .before .before .before .before .before .if1 .left), ne-eqb _ _ (c .before .before .before .if2 .left), ne-eqb _ _ (c .before .before .if3 .left), ne-eqb _ _ (c .before .if4 .left), c .segment-in .ensures, c .before .before .before .before .ink-in .ensures)
 
 pub drawing-in-spec : {M : Type 1} → statement M
 drawing-in-spec =
@@ -51,4 +58,6 @@ drawing-in-spec =
     rectangle-in-requires
     returns-3
     bitmap-in-requires
-    returns-4)
+    returns-4
+    segment-in-requires
+    returns-5)

@@ -26,6 +26,12 @@ enum-known-drawing-4 c = search needs
 put-bitmap-requires : tie.Need-put-bitmap-requires
 put-bitmap-requires c κs = search needs
 
+enum-known-drawing-5 : tie.Need-enum-known-drawing-5
+enum-known-drawing-5 c = search needs
+
+put-segment-requires : tie.Need-put-segment-requires
+put-segment-requires c κs = search needs
+
 same-length : tie.Need-same-length
 same-length c = search needs
 
@@ -59,6 +65,15 @@ same-length-7 c = search needs
 returns-4 : tie.Need-returns-4
 returns-4 c = rw (c .before .before .before .before .before .before .before .before .drawing4 .given .1) (c .before .before .before .before .put-bitmap .ensures)
 
+same-length-8 : tie.Need-same-length-8
+same-length-8 c = search needs
+
+same-length-9 : tie.Need-same-length-9
+same-length-9 c = search needs
+
+returns-5 : tie.Need-returns-5
+returns-5 c = rw (c .before .before .before .before .before .before .before .before .drawing5 .given .1) (c .before .before .before .before .put-segment .ensures)
+
 pub put-drawing-spec : {M : Type 1} → statement M
 put-drawing-spec =
     tie.close
@@ -71,6 +86,8 @@ put-drawing-spec =
     put-rectangle-requires
     enum-known-drawing-4
     put-bitmap-requires
+    enum-known-drawing-5
+    put-segment-requires
     same-length
     returns
     same-length-2
@@ -81,4 +98,7 @@ put-drawing-spec =
     returns-3
     same-length-6
     same-length-7
-    returns-4)
+    returns-4
+    same-length-8
+    same-length-9
+    returns-5)
