@@ -130,20 +130,21 @@ install_missing() {
     need_compilers
 }
 
-# Makes the second program's stand-in, as one object that shows the nine calls and none of its other names.
+# Makes the second program's stand-in out of the folder with its sources, as one object that shows the nine calls and
+# none of its other names.
 make_stand_in() {
-    local objects
+    local sources=$1 object=$2 objects
     objects=$(mktemp -d)
-    (cd "$objects" && "$CC" "${C_FLAGS[@]}" -c "$root"/tests/second/{stand_in,guide,runner,painter,repainter,ringer}.c)
-    mkdir -p "$(dirname "${library[0]}")"
-    "$CC" -r -nostdlib "$objects"/*.o -o "${library[0]}"
-    objcopy --wildcard --keep-global-symbol='jv_*' "${library[0]}"
+    (cd "$objects" && "$CC" "${C_FLAGS[@]}" -c "$sources"/{stand_in,guide,runner,painter,repainter,ringer}.c)
+    mkdir -p "$(dirname "$object")"
+    "$CC" -r -nostdlib "$objects"/*.o -o "$object"
+    "$("$CC" -print-prog-name=objcopy)" --wildcard --keep-global-symbol='jv_*' "$object"
     rm -r "$objects"
 }
 
 need_archive() {
     if [ "${library[0]}" != "$archive" ]; then
-        make_stand_in
+        make_stand_in "$root/tests/second" "${library[0]}"
     elif ! [ -f "$archive" ]; then
         echo "there is no $archive; 'make' in $root makes it" >&2
         exit 1

@@ -139,6 +139,33 @@ static void check_corners(void)
     CHECK_HOLDS(kept.count == 1 && is_at(kept.action[0].rectangle.low, 7, 7), "a restore leaves a corner open");
 }
 
+static void check_ends(void)
+{
+    begin_part("actions: ends");
+    actions placed = ACTIONS_OF(BEGIN(LINES), VERTEX_FORMAT(0), VERTEX_TRANSLATE_X(3), VERTEX2F(1, 2),
+                                VERTEX_FORMAT(3), VERTEX_TRANSLATE_X(0), VERTEX_TRANSLATE_Y(-5), LINE_WIDTH(7),
+                                VERTEX2F(-1, 10), DISPLAY());
+    CHECK_HOLDS(placed.count == 1 && placed.action[0].kind == A_SEGMENT, "one segment");
+    const segment_shape *s = &placed.action[0].segment;
+    CHECK_HOLDS(is_at(s->from, 19, 32) && is_at(s->to, -2, 15), "each end placed at its own vertex, in their order");
+    CHECK_HOLDS(s->width == 7 && s->primitive == LINES, "with the width at the second end");
+
+    actions strip = ACTIONS_OF(BEGIN(LINE_STRIP), COLOR_A(1), VERTEX2F(1, 1), COLOR_A(2), VERTEX2F(2, 2), COLOR_A(3),
+                               VERTEX2F(3, 3), DISPLAY());
+    CHECK_HOLDS(strip.count == 2, "a strip of two segments");
+    CHECK_HOLDS(is_at(strip.action[0].segment.from, 1, 1) && is_at(strip.action[0].segment.to, 2, 2), "the first");
+    CHECK_HOLDS(is_at(strip.action[1].segment.from, 2, 2) && is_at(strip.action[1].segment.to, 3, 3), "the second");
+    CHECK_HOLDS(strip.action[0].colour.alpha == 2 && strip.action[1].colour.alpha == 3, "the rest as at second ends");
+
+    actions alike = ACTIONS_OF(BEGIN(LINES), VERTEX2F(1, 1), VERTEX2F(2, 2), VERTEX2F(1, 1), VERTEX2F(2, 2),
+                               VERTEX2F(2, 2), VERTEX2F(1, 1), BEGIN(LINE_STRIP), VERTEX2F(1, 1), VERTEX2F(2, 2),
+                               DISPLAY());
+    CHECK_HOLDS(alike.count == 4, "four segments");
+    CHECK_HOLDS(are_equal_actions(&alike.action[0], &alike.action[1]), "equal by value");
+    CHECK_HOLDS(!are_equal_actions(&alike.action[0], &alike.action[2]), "but not the other way round");
+    CHECK_HOLDS(!are_equal_actions(&alike.action[0], &alike.action[3]), "nor in a strip");
+}
+
 static void check_bitmap(void)
 {
     begin_part("actions: bitmaps");
@@ -163,5 +190,6 @@ void check_actions_by_hand(void)
     check_restores();
     check_whole_context();
     check_corners();
+    check_ends();
     check_bitmap();
 }

@@ -12,7 +12,7 @@
 
 _Static_assert(sizeof(jv_answer) == 16, "a list's answer is four numbers");
 
-enum { LEAST_OF_EACH = 3, NUMBERS = 20, MOST_WORDS = MOST_LIST_BYTES / 4 };
+enum { LEAST_OF_EACH = 3, NUMBERS = 21, MOST_WORDS = MOST_LIST_BYTES / 4 };
 
 typedef struct {
     int line;
@@ -151,9 +151,7 @@ static const hand_list no_meaning[] = {
 };
 
 static const hand_list not_drawn[] = {
-    { CASE("LINES, with no vertex after it"), LIST(BEGIN(LINES), DISPLAY()), GIVES(13, 0, 1) },
-    { CASE("LINE_STRIP"), LIST(BEGIN(LINE_STRIP), DISPLAY()), GIVES(13, 0, 1) },
-    { CASE("EDGE_STRIP_R"), LIST(BEGIN(EDGE_STRIP_R), DISPLAY()), GIVES(13, 0, 1) },
+    { CASE("EDGE_STRIP_R, with no vertex after it"), LIST(BEGIN(EDGE_STRIP_R), DISPLAY()), GIVES(13, 0, 1) },
     { CASE("EDGE_STRIP_L"), LIST(BEGIN(EDGE_STRIP_L), DISPLAY()), GIVES(13, 0, 1) },
     { CASE("EDGE_STRIP_A"), LIST(BEGIN(EDGE_STRIP_A), DISPLAY()), GIVES(13, 0, 1) },
     { CASE("EDGE_STRIP_B"), LIST(BEGIN(EDGE_STRIP_B), DISPLAY()), GIVES(13, 0, 1) },
@@ -233,6 +231,117 @@ static const hand_list no_primitive[] = {
       GIVES(17, 8, 5) },
     { CASE("END between the corners of a rectangle"),
       LIST(BEGIN(RECTS), VERTEX2F(0, 0), END(), VERTEX2F(16, 16), DISPLAY()), GIVES(17, 12, 4) },
+};
+
+/* Three words that end in a vertex at this place in sixteenths, far beyond what a VERTEX2F says by itself. */
+#define END_AT(x, y) VERTEX_TRANSLATE_X(x), VERTEX_TRANSLATE_Y(y), VERTEX2F(0, 0)
+
+/* A segment of either primitive whose first end, or second, lies there. Its second vertex is the seventh word. */
+#define FIRST_AT(primitive, x, y) LIST(BEGIN(primitive), END_AT(x, y), END_AT(0, 0), DISPLAY())
+#define SECOND_AT(primitive, x, y) LIST(BEGIN(primitive), END_AT(0, 0), END_AT(x, y), DISPLAY())
+
+static const hand_list ends[] = {
+    { CASE("LINES, no vertex"), LIST(BEGIN(LINES), DISPLAY()), GIVES(0, 0, 2) },
+    { CASE("LINE_STRIP, no vertex"), LIST(BEGIN(LINE_STRIP), DISPLAY()), GIVES(0, 0, 2) },
+    { CASE("LINES, first end farthest left"), FIRST_AT(LINES, -32768, 0), GIVES(0, 0, 8) },
+    { CASE("LINES, first end farthest right"), FIRST_AT(LINES, 32767, 0), GIVES(0, 0, 8) },
+    { CASE("LINES, first end farthest up"), FIRST_AT(LINES, 0, -32768), GIVES(0, 0, 8) },
+    { CASE("LINES, first end farthest down"), FIRST_AT(LINES, 0, 32767), GIVES(0, 0, 8) },
+    { CASE("LINES, second end farthest left"), SECOND_AT(LINES, -32768, 0), GIVES(0, 0, 8) },
+    { CASE("LINES, second end farthest right"), SECOND_AT(LINES, 32767, 0), GIVES(0, 0, 8) },
+    { CASE("LINES, second end farthest up"), SECOND_AT(LINES, 0, -32768), GIVES(0, 0, 8) },
+    { CASE("LINES, second end farthest down"), SECOND_AT(LINES, 0, 32767), GIVES(0, 0, 8) },
+    { CASE("a strip, first end farthest left"), FIRST_AT(LINE_STRIP, -32768, 0), GIVES(0, 0, 8) },
+    { CASE("a strip, first end farthest right"), FIRST_AT(LINE_STRIP, 32767, 0), GIVES(0, 0, 8) },
+    { CASE("a strip, first end farthest up"), FIRST_AT(LINE_STRIP, 0, -32768), GIVES(0, 0, 8) },
+    { CASE("a strip, first end farthest down"), FIRST_AT(LINE_STRIP, 0, 32767), GIVES(0, 0, 8) },
+    { CASE("a strip, second end farthest left"), SECOND_AT(LINE_STRIP, -32768, 0), GIVES(0, 0, 8) },
+    { CASE("a strip, second end farthest right"), SECOND_AT(LINE_STRIP, 32767, 0), GIVES(0, 0, 8) },
+    { CASE("a strip, second end farthest up"), SECOND_AT(LINE_STRIP, 0, -32768), GIVES(0, 0, 8) },
+    { CASE("a strip, second end farthest down"), SECOND_AT(LINE_STRIP, 0, 32767), GIVES(0, 0, 8) },
+    { CASE("from corner to corner"), LIST(BEGIN(LINES), END_AT(-32768, 32767), END_AT(32767, -32768), DISPLAY()),
+      GIVES(0, 0, 8) },
+    { CASE("2048 pixels to the left are 32768 sixteenths"),
+      LIST(VERTEX_FORMAT(0), BEGIN(LINES), VERTEX2F(0, 0), VERTEX2F(-2048, 2047), DISPLAY()), GIVES(0, 0, 5) },
+    { CASE("the largest numbers of VERTEX2F in eighths"),
+      LIST(VERTEX_FORMAT(3), BEGIN(LINE_STRIP), VERTEX2F(-16384, 16383), VERTEX2F(16383, -16384), DISPLAY()),
+      GIVES(0, 0, 5) },
+    { CASE("VERTEX2II and a translation, just inside"),
+      LIST(VERTEX_TRANSLATE_X(24591), BEGIN(LINES), VERTEX2II(0, 0, 0, 0), VERTEX2II(511, 511, 0, 0), DISPLAY()),
+      GIVES(0, 0, 5) },
+
+    /* A far end that no vertex completes. */
+    { CASE("left open at DISPLAY"), LIST(BEGIN(LINES), END_AT(-65536, 65535), DISPLAY()), GIVES(0, 0, 5) },
+    { CASE("left open in a strip"), LIST(BEGIN(LINE_STRIP), END_AT(-32769, 0), DISPLAY()), GIVES(0, 0, 5) },
+    { CASE("left over after a pair"),
+      LIST(BEGIN(LINES), VERTEX2F(0, 0), VERTEX2F(9, 9), END_AT(32768, 0), DISPLAY()), GIVES(0, 0, 7) },
+    { CASE("dropped by BEGIN"),
+      LIST(BEGIN(LINES), END_AT(32768, 0), BEGIN(LINES), END_AT(0, 0), VERTEX2F(9, 9), DISPLAY()),
+      GIVES(0, 0, 10) },
+    { CASE("dropped by END"),
+      LIST(BEGIN(LINES), END_AT(0, 32768), END(), BEGIN(LINES), END_AT(0, 0), VERTEX2F(9, 9), DISPLAY()),
+      GIVES(0, 0, 11) },
+    { CASE("dropped for a strip"),
+      LIST(BEGIN(LINES), END_AT(0, -32769), BEGIN(LINE_STRIP), END_AT(0, 0), VERTEX2F(9, 9), DISPLAY()),
+      GIVES(0, 0, 10) },
+
+    /* Other primitives may lie anywhere. */
+    { CASE("a point far away"), LIST(BEGIN(POINTS), END_AT(-65536, 65535), DISPLAY()), GIVES(0, 0, 5) },
+    { CASE("a rectangle far away"), LIST(BEGIN(RECTS), END_AT(-65536, 65535), END_AT(65535, -65536), DISPLAY()),
+      GIVES(0, 0, 8) },
+    { CASE("a bitmap far away"),
+      LIST(BITMAP_SOURCE(0), BITMAP_LAYOUT(L8, 8, 8), BITMAP_SIZE(0, 0, 0, 8, 8), BEGIN(BITMAPS), END_AT(-65536, 65535),
+           DISPLAY()),
+      GIVES_WITH_RAM_G(64, 0, 0, 8) },
+};
+
+static const hand_list far_ends[] = {
+    { CASE("LINES, first end one too far left"), FIRST_AT(LINES, -32769, 0), GIVES(20, 24, 7) },
+    { CASE("LINES, first end one too far right"), FIRST_AT(LINES, 32768, 0), GIVES(20, 24, 7) },
+    { CASE("LINES, first end one too far up"), FIRST_AT(LINES, 0, -32769), GIVES(20, 24, 7) },
+    { CASE("LINES, first end one too far down"), FIRST_AT(LINES, 0, 32768), GIVES(20, 24, 7) },
+    { CASE("LINES, second end one too far left"), SECOND_AT(LINES, -32769, 0), GIVES(20, 24, 7) },
+    { CASE("LINES, second end one too far right"), SECOND_AT(LINES, 32768, 0), GIVES(20, 24, 7) },
+    { CASE("LINES, second end one too far up"), SECOND_AT(LINES, 0, -32769), GIVES(20, 24, 7) },
+    { CASE("LINES, second end one too far down"), SECOND_AT(LINES, 0, 32768), GIVES(20, 24, 7) },
+    { CASE("a strip, first end one too far left"), FIRST_AT(LINE_STRIP, -32769, 0), GIVES(20, 24, 7) },
+    { CASE("a strip, first end one too far right"), FIRST_AT(LINE_STRIP, 32768, 0), GIVES(20, 24, 7) },
+    { CASE("a strip, first end one too far up"), FIRST_AT(LINE_STRIP, 0, -32769), GIVES(20, 24, 7) },
+    { CASE("a strip, first end one too far down"), FIRST_AT(LINE_STRIP, 0, 32768), GIVES(20, 24, 7) },
+    { CASE("a strip, second end one too far left"), SECOND_AT(LINE_STRIP, -32769, 0), GIVES(20, 24, 7) },
+    { CASE("a strip, second end one too far right"), SECOND_AT(LINE_STRIP, 32768, 0), GIVES(20, 24, 7) },
+    { CASE("a strip, second end one too far up"), SECOND_AT(LINE_STRIP, 0, -32769), GIVES(20, 24, 7) },
+    { CASE("a strip, second end one too far down"), SECOND_AT(LINE_STRIP, 0, 32768), GIVES(20, 24, 7) },
+    { CASE("both ends, in the same place"), LIST(BEGIN(LINES), END_AT(40000, 0), VERTEX2F(0, 0), DISPLAY()),
+      GIVES(20, 16, 5) },
+    { CASE("as far away as a vertex can be"),
+      LIST(VERTEX_FORMAT(0), VERTEX_TRANSLATE_X(-65536), VERTEX_TRANSLATE_Y(65535), BEGIN(LINES),
+           VERTEX2F(-16384, 16383), VERTEX2F(-16384, 16383), DISPLAY()),
+      GIVES(20, 20, 6) },
+    { CASE("2048 pixels to the right"),
+      LIST(VERTEX_FORMAT(0), BEGIN(LINES), VERTEX2F(0, 0), VERTEX2F(2048, 0), DISPLAY()), GIVES(20, 12, 4) },
+    { CASE("2049 pixels upwards"),
+      LIST(VERTEX_FORMAT(0), BEGIN(LINES), VERTEX2F(0, -2049), VERTEX2F(0, 0), DISPLAY()), GIVES(20, 12, 4) },
+    { CASE("VERTEX2II and a translation, one too far"),
+      LIST(VERTEX_TRANSLATE_X(24592), BEGIN(LINES), VERTEX2II(0, 0, 0, 0), VERTEX2II(511, 0, 0, 0), DISPLAY()),
+      GIVES(20, 12, 4) },
+    { CASE("the third vertex of a strip"),
+      LIST(BEGIN(LINE_STRIP), VERTEX2F(0, 0), VERTEX2F(9, 9), END_AT(0, 32768), DISPLAY()), GIVES(20, 20, 6) },
+    { CASE("the third of LINES, at the fourth"),
+      LIST(BEGIN(LINES), VERTEX2F(0, 0), VERTEX2F(9, 9), END_AT(0, 32768), END_AT(0, 0), DISPLAY()), GIVES(20, 32, 9) },
+    { CASE("whatever the scissor says"),
+      LIST(SCISSOR_SIZE(0, 0), BEGIN(LINES), VERTEX2F(0, 0), END_AT(32768, 0), DISPLAY()), GIVES(20, 20, 6) },
+    { CASE("a save and a restore do not drop it"),
+      LIST(SAVE_CONTEXT(), BEGIN(LINES), END_AT(-32769, 0), RESTORE_CONTEXT(), VERTEX2F(0, 0), DISPLAY()),
+      GIVES(20, 24, 7) },
+    { CASE("at a vertex in a called stretch"),
+      LIST(/* 0 */ BEGIN(LINES), END_AT(0, 32768), CALL(24), DISPLAY(), /* 24 */ END_AT(0, 0), RETURN()),
+      GIVES(20, 32, 8) },
+    { CASE("at the limit's last word"), FIRST_AT(LINES, 32768, 0), GIVES_UNDER_LIMIT(7, 20, 24, 7) },
+    { CASE("19 before 20"), FIRST_AT(LINES, 32768, 0), GIVES_UNDER_LIMIT(6, 19, 24, 6) },
+    { CASE("17 before 20: nothing is begun"), LIST(END_AT(-65536, 65535), VERTEX2F(0, 0), DISPLAY()), GIVES(17, 8, 3) },
+    { CASE("17 before 20: after END"),
+      LIST(BEGIN(LINES), END_AT(-65536, 65535), END(), VERTEX2F(0, 0), DISPLAY()), GIVES(17, 20, 6) },
 };
 
 /* A bitmap of one byte a pixel, 8 lines of 8 pixels: a cell takes 64 bytes. */
@@ -772,6 +881,8 @@ int main(void)
     CHECK_TABLE("17, no primitive", no_primitive);
     CHECK_TABLE("18, bitmaps", bitmaps);
     CHECK_TABLE("19, limit reached", limit_reached);
+    CHECK_TABLE("0, ends within reach", ends);
+    CHECK_TABLE("20, far ends", far_ends);
     check_long_lists();
     check_measures();
     check_measures_before_run();

@@ -1,5 +1,6 @@
 /* Lists of so many actions that the library does not keep them all while it paints: on both sides of that number, and
-   the most that one list holds. Points of one pixel each go over a small frame again and again, and each adds 1. */
+   the most that one list holds. Points of one pixel each go over a small frame again and again, and each adds 1; a
+   strip goes to and fro along a row. */
 #include "pictures_by_hand.h"
 
 #include <stdio.h>
@@ -48,9 +49,32 @@ static void check_points(uint32_t points)
                                                          { '3', { 3, 3, 3, 255 } }) });
 }
 
+/* Along row 0 all the time, but for the last segment, which goes down and is red. */
+static void check_strip(uint32_t segments)
+{
+    static uint32_t words[MOST_LIST_WORDS];
+    bool ends_at_right = segments % 2 == 0;
+    char name[32];
+    size_t count = 0;
+    words[count++] = LINE_WIDTH(0);
+    words[count++] = BEGIN(LINE_STRIP);
+    for (uint32_t n = 0; n < segments; n++)
+        words[count++] = VERTEX2II(n % 2 == 0 ? 0 : 3, 0, 0, 0);
+    words[count++] = COLOR_RGB(255, 0, 0);
+    words[count++] = VERTEX2II(ends_at_right ? 3 : 0, 1, 0, 0);
+    words[count++] = DISPLAY();
+    snprintf(name, sizeof name, "a strip of %u segments", segments);
+    const char *const rows[] = { ends_at_right ? "###r" : "r###", ends_at_right ? "...r" : "r..." };
+    check_picture(__FILE__, &(const hand_picture){ CASE(name), .words = words, .count = count, .rows = rows,
+                                                   .height = LENGTH(rows), WHERE({ 'r', { 255, 0, 0, 255 } }) });
+}
+
 void check_many_by_hand(void)
 {
     static const uint32_t numbers[] = { 1, 999, 1000, 1022, 1023, 1024, 1025, 1026, 2000, 2043 };
     for (size_t n = 0; n < LENGTH(numbers); n++)
         check_points(numbers[n]);
+    static const uint32_t lengths[] = { 2, 3, 1022, 1023, 1024, 1025, 1026, 2042, 2043 };
+    for (size_t n = 0; n < LENGTH(lengths); n++)
+        check_strip(lengths[n]);
 }

@@ -7,6 +7,7 @@
 int main(void)
 {
     check_shapes_by_hand();
+    check_lines_by_hand();
     check_pixels_by_hand();
     check_bitmaps_by_hand();
     check_many_by_hand();

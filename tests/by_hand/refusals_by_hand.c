@@ -11,7 +11,7 @@
 #include "faulty_lists.h"
 #include "hand_pictures.h"
 
-enum { WIDTH = 4, HEIGHT = 3, NUMBERS = 20 };
+enum { WIDTH = 4, HEIGHT = 3, NUMBERS = 21 };
 
 static uint8_t ram_g[MOST_RAM_G_BYTES + 1];
 
@@ -230,7 +230,7 @@ static void check_vast_lengths(void)
     }
 }
 
-/* ---- Numbers 10 to 19 ---- */
+/* ---- Numbers 10 to 20 ---- */
 
 static void check_faulty_lists(void)
 {

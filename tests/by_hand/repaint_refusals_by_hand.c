@@ -12,7 +12,7 @@
 #include "faulty_lists.h"
 #include "hand_repaints.h"
 
-enum { WIDTH = 4, HEIGHT = 3, NUMBERS = 20 };
+enum { WIDTH = 4, HEIGHT = 3, NUMBERS = 21 };
 
 static const repaint_program *const programs[] = { &repainting_library, &repainting_second_program };
 
@@ -234,7 +234,7 @@ static void check_vast_lengths(void)
     }
 }
 
-/* ---- Numbers 10 to 19 ---- */
+/* ---- Numbers 10 to 20 ---- */
 
 static jv_answer told_of(uint32_t list, run_answer a)
 {
@@ -265,7 +265,7 @@ static void check_faulty_lists(void)
     }
 }
 
-/* The two lists that 2 and 10 to 19 can name, each of them. */
+/* The two lists that 2 and 10 to 20 can name, each of them. */
 static void check_each_met(void)
 {
     begin_part("each number refused");

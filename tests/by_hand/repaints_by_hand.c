@@ -7,6 +7,7 @@
 int main(void)
 {
     check_marks_by_hand();
+    check_line_marks_by_hand();
     check_many_repaints_by_hand();
     check_repaint_refusals_by_hand();
     return end_checks();

@@ -3,6 +3,7 @@
 #define REPAINTS_BY_HAND_H
 
 void check_marks_by_hand(void);
+void check_line_marks_by_hand(void);
 void check_many_repaints_by_hand(void);
 void check_repaint_refusals_by_hand(void);
 

@@ -21,7 +21,7 @@ bool is_met(const char *what, unsigned long times, unsigned long least)
 
 bool is_number(uint32_t number)
 {
-    return number <= 4 || (10 <= number && number <= 19);
+    return number <= 4 || (10 <= number && number <= 20);
 }
 
 bool is_number_met(const char *by, uint32_t number, unsigned long times, unsigned long least)
@@ -42,8 +42,8 @@ void print_numbers_met(const char *what, const unsigned long times[NUMBERS])
 
 void print_actions_met(const unsigned long times[ACTION_KINDS])
 {
-    printf("actions: %lu clear, %lu point, %lu rectangle, %lu bitmap\n", times[CLEARING], times[A_POINT],
-           times[A_RECTANGLE], times[A_BITMAP]);
+    printf("actions: %lu clear, %lu point, %lu rectangle, %lu segment, %lu bitmap\n", times[CLEARING], times[A_POINT],
+           times[A_RECTANGLE], times[A_SEGMENT], times[A_BITMAP]);
 }
 
 bool are_numbers_met(const unsigned long times[NUMBERS], unsigned long least)

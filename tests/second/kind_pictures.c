@@ -13,14 +13,15 @@
 #include "list_case.h"
 #include "made_lists.h"
 #include "painter.h"
+#include "segments_met.h"
 
-enum { LEAST_DRAWN = 20000, LEAST_MET = 20 };
+enum { LEAST_DRAWN = 20000, LEAST_SEGMENTS = 1000, LEAST_MET = 20 };
 
 enum { ROW = LIST_NUMBERS, PICTURE_BESIDE, TAGS_BESIDE, ROW_PICTURE_BESIDE, ROW_TAGS_BESIDE, PICTURE_NUMBERS };
 
 typedef struct {
     unsigned long number[NUMBERS];
-    unsigned long actions[ACTION_KINDS], shown, rows;
+    unsigned long actions[ACTION_KINDS], segments[SEGMENT_SORTS], shown, rows;
     uint64_t covered;
 } picture_tally;
 
@@ -160,10 +161,16 @@ static bool has_colour(const painted *p)
     return false;
 }
 
+/* The run whose actions are counted. */
+typedef struct {
+    const run_request *request;
+} counted_run;
+
 static void count_action(void *taker, const run_action *action)
 {
-    picture_tally *t = taker;
-    t->actions[action->kind]++;
+    const counted_run *run = taker;
+    met.actions[action->kind]++;
+    count_segment(met.segments, run->request, action);
 }
 
 static void count_case(const run_request *r, const painted *frame, const painted *row)
@@ -172,7 +179,7 @@ static void count_case(const run_request *r, const painted *frame, const painted
     met.rows += row->answer.number == JV_DONE ? 1 : 0;
     if (frame->answer.number != JV_DONE)
         return;
-    run_list_for_actions(r, count_action, &met);
+    run_list_for_actions(r, count_action, &(counted_run){ r });
     met.covered += count_covered_pixels(r);
     met.shown += has_colour(frame) ? 1 : 0;
 }
@@ -213,6 +220,7 @@ static void print_tally(void)
 {
     print_numbers_met("lists", met.number);
     print_actions_met(met.actions);
+    print_segments_met(met.segments);
     printf("%" PRIu64 " pixels covered; %lu frames are not all black; %lu rows painted alone\n", met.covered, met.shown,
            met.rows);
 }
@@ -220,6 +228,7 @@ static void print_tally(void)
 static bool is_enough_met(void)
 {
     bool is_enough = are_numbers_met(met.number, LEAST_MET);
+    is_enough = are_segments_met(met.segments, LEAST_SEGMENTS) && is_enough;
     is_enough = is_met("a list that draws", met.number[JV_DONE], LEAST_DRAWN) && is_enough;
     return is_met("a frame with something that is seen", met.shown, LEAST_DRAWN / 2) && is_enough;
 }

@@ -31,6 +31,16 @@ static bool is_bitmap_setting(uint32_t word)
     return command == JV_BITMAP_SOURCE || command == JV_BITMAP_LAYOUT || command == JV_BITMAP_SIZE;
 }
 
+static bool is_line_width(uint32_t word)
+{
+    return command_of(word) == JV_LINE_WIDTH;
+}
+
+static bool begins_lines(uint32_t word)
+{
+    return word == BEGIN(LINES) || word == BEGIN(LINE_STRIP);
+}
+
 /* The first such word from `at` on, and after the last from the first again; `at` where there is none. */
 typedef bool is_sought(uint32_t word);
 static size_t find_word(const edited_words *e, size_t at, is_sought *is_it)
@@ -89,6 +99,21 @@ static void swap(edited_words *e, size_t at, size_t other)
     e->words[other] = word;
 }
 
+/* With the next vertex, so that the ends of a segment are reversed, or two vertices of a strip. */
+static void swap_vertices(edited_words *e, size_t at)
+{
+    size_t one = find_word(e, at, is_vertex);
+    swap(e, one, find_word(e, (one + 1) % e->count, is_vertex));
+}
+
+/* LINES instead of LINE_STRIP, or the other way round. */
+static void turn_lines(edited_words *e, size_t at)
+{
+    uint32_t *word = &e->words[find_word(e, at, begins_lines)];
+    if (begins_lines(*word))
+        *word ^= BEGIN(LINES) ^ BEGIN(LINE_STRIP);
+}
+
 /* With one of the low bits of one field turned, so that a vertex moves within its pixel or a little further; or with
    another format. */
 static uint32_t nudged(uint32_t word)
@@ -102,6 +127,12 @@ static uint32_t nudged(uint32_t word)
         return (word & ~BITS(31, 5, 19)) | BITS(formats[draw_below(LENGTH(formats))], 5, 19);
     uint32_t bits = f->high - f->low + 1;
     return word ^ (uint32_t)1 << (f->low + draw_below(bits < 5 ? bits : 5));
+}
+
+static void change_line_width(edited_words *e, size_t at)
+{
+    uint32_t *word = &e->words[find_word(e, at, is_line_width)];
+    *word = draw_once_in(2) ? nudged(*word) : draw_word_like(*word, e->frame);
 }
 
 /* A NOP, or a word of the list once more, or one like it. */
@@ -121,7 +152,7 @@ static uint32_t draw_inserted_word(const edited_words *e)
 static void edit_once(edited_words *e)
 {
     size_t at = draw_word_place(e), other = draw_below((uint32_t)e->count);
-    switch (draw_below(20)) {
+    switch (draw_below(25)) {
     case 0:
     case 1:
     case 2:
@@ -150,6 +181,18 @@ static void edit_once(edited_words *e)
         break;
     case 12:
         insert(e, at, NOP());
+        break;
+    case 13:
+        swap_vertices(e, at);
+        break;
+    case 14:
+        turn_lines(e, at);
+        break;
+    case 15:
+        change_line_width(e, at);
+        break;
+    case 16:
+        insert(e, at, draw_word_like(e->words[at], e->frame));
         break;
     default:
         e->words[at] = draw_word_like(e->words[at], e->frame);

@@ -71,7 +71,7 @@ static uint32_t reserved_bits(const entry *e)
 static uint32_t draw_meant_value(const field *f)
 {
     static const uint32_t drawn_formats[] = { ARGB1555, L8, RGB565 };
-    static const uint32_t drawn_primitives[] = { BITMAPS, POINTS, RECTS };
+    static const uint32_t drawn_primitives[] = { BITMAPS, POINTS, LINES, LINE_STRIP, RECTS };
     if (f->kind == FORMAT)
         return DRAW_ONE_OF(drawn_formats);
     if (f->kind == PRIMITIVE)
@@ -265,7 +265,7 @@ static uint32_t draw_not_drawn(void)
     uint32_t any = draw();
     switch (draw_below(5)) {
     case 0:
-        return BEGIN(draw_from(LINES, EDGE_STRIP_B));
+        return BEGIN(draw_from(EDGE_STRIP_R, EDGE_STRIP_B));
     case 1:
         return BITMAP_LAYOUT(DRAW_ONE_OF(formats), any, any >> 10);
     case 2: {
@@ -544,9 +544,174 @@ static void put_jump_back(draft *d)
     put(d, JUMP(4 * draw_below((uint32_t)d->count + 1)));
 }
 
+/* ---- Lines ---- */
+
+/* None, or such that whole numbers are often just as far away. */
+static uint32_t draw_line_width(const draft *d)
+{
+    switch (draw_below(6)) {
+    case 0:
+        return 0;
+    case 1:
+        return 5 * draw_below(16);
+    case 2:
+        return 16 * draw_below(4);
+    default:
+        return draw_size(d, 4095);
+    }
+}
+
+/* In the unit of VERTEX2F. */
+typedef struct {
+    int32_t x, y;
+} end_place;
+
+static bool is_in_vertex2f(end_place e)
+{
+    return -16384 <= e.x && e.x < 16384 && -16384 <= e.y && e.y < 16384;
+}
+
+static end_place draw_end(const draft *d)
+{
+    int32_t x = does_aim(d) ? draw_place(d->aim.width) : (int32_t)draw_below(32768) - 16384;
+    int32_t y = does_aim(d) ? draw_place(d->aim.height) : (int32_t)draw_below(32768) - 16384;
+    return (end_place){ x, y };
+}
+
+/* The end after this one: the same, or in a row, a column or a diagonal with it, or steep or flat, or where distances
+   are whole numbers; and often anywhere. */
+static end_place draw_end_after(const draft *d, end_place last)
+{
+    static const end_place ways[] = { { 0, 0 }, { 1, 0 },  { -1, 0 },  { 0, 1 },   { 0, -1 }, { 1, 1 },   { 1, -1 },
+                                      { 1, 9 }, { -7, 1 }, { 16, 48 }, { 48, 16 }, { 3, 4 },  { -4, -3 }, { 12, -5 } };
+    end_place way = DRAW_ONE_OF(ways);
+    int32_t steps = (int32_t)draw_below(draw_once_in(4) ? 1000 : 60);
+    end_place next = { last.x + steps * way.x, last.y + steps * way.y };
+    return draw_once_in(2) && is_in_vertex2f(next) ? next : draw_end(d);
+}
+
+/* As far away as an end may lie, or nearly; and now and then too far. */
+static int32_t draw_far_place(const draft *d)
+{
+    static const int32_t far[] = { -32768, -32767, 32766, 32767 }, too_far[] = { -32769, 32768, -49152, 49151 };
+    if (draw_mishap(d, 6))
+        return DRAW_ONE_OF(too_far);
+    return draw_once_in(2) ? DRAW_ONE_OF(far) : (int32_t)draw_below(65536) - 32768;
+}
+
+/* An end at this place in sixteenths, which a vertex alone might not reach: in any format, and with a translation that
+   is mostly taken back. */
+static void put_end_at(draft *d, int32_t x, int32_t y)
+{
+    uint32_t frac = draw_below(5);
+    int32_t unit = (int32_t)1 << (4 - frac);
+    int32_t said_x = (int32_t)draw_below(2000) - 1000, said_y = (int32_t)draw_below(2000) - 1000;
+    put(d, VERTEX_FORMAT(frac));
+    put(d, VERTEX_TRANSLATE_X(x - unit * said_x));
+    put(d, VERTEX_TRANSLATE_Y(y - unit * said_y));
+    put(d, VERTEX2F(said_x, said_y));
+    if (draw_mishap(d, 4))
+        return;
+    put(d, VERTEX_FORMAT(4));
+    put(d, VERTEX_TRANSLATE_X(0));
+    put(d, VERTEX_TRANSLATE_Y(0));
+}
+
+static void put_far_end(draft *d)
+{
+    uint32_t which = draw_below(3);
+    int32_t x = which == 0 ? draw_place(d->aim.width) : draw_far_place(d);
+    int32_t y = which == 1 ? draw_place(d->aim.height) : draw_far_place(d);
+    put_end_at(d, x, y);
+}
+
+/* As far on the other side of the middle, but no further than an end may lie. */
+static int32_t opposite(int32_t place, int32_t middle)
+{
+    int32_t other = 2 * middle - place;
+    return other < -32768 ? -32768 : other > 32767 ? 32767 : other;
+}
+
+/* Two ends on either side of a place in the frame, so that a segment from far to far is seen there. */
+static void put_crossing_ends(draft *d)
+{
+    int32_t middle_x = draw_place(d->aim.width), middle_y = draw_place(d->aim.height);
+    int32_t x = draw_far_place(d), y = draw_far_place(d);
+    put_end_at(d, x, y);
+    put_end_at(d, opposite(x, middle_x), opposite(y, middle_y));
+}
+
+/* What may come between two ends: other settings for the second, what drops an open end, and what leaves it. */
+static void put_between_ends(draft *d, unsigned stretch, uint32_t primitive)
+{
+    switch (draw_below(24)) {
+    case 0:
+        put(d, BEGIN(primitive));
+        break;
+    case 1:
+        put(d, END());
+        put(d, BEGIN(primitive));
+        break;
+    case 2:
+        put(d, BEGIN(primitive == LINES ? LINE_STRIP : LINES));
+        break;
+    case 3:
+        put(d, SAVE_CONTEXT());
+        break;
+    case 4:
+        put(d, RESTORE_CONTEXT());
+        break;
+    case 5:
+        put_jump(d);
+        break;
+    case 6:
+    case 7:
+        put(d, LINE_WIDTH(draw_line_width(d)));
+        break;
+    case 8:
+        if (draw_once_in(4))
+            put_call(d, stretch);
+        break;
+    default:
+        maybe_put_setting(d);
+        break;
+    }
+}
+
+static void put_end(draft *d, end_place end)
+{
+    uint32_t any = draw();
+    if (any % 24 == 0)
+        put_far_end(d);
+    else if (any % 24 == 1)
+        put_crossing_ends(d);
+    else if (any % 24 <= 5)
+        put(d, draw_vertex2ii(d, any >> 8, any >> 13));
+    else
+        put(d, VERTEX2F(end.x, end.y));
+}
+
+static void put_lines(draft *d, unsigned stretch)
+{
+    uint32_t primitive = draw_once_in(2) ? LINES : LINE_STRIP;
+    end_place end = draw_end(d);
+    if (!draw_once_in(4))
+        put(d, LINE_WIDTH(draw_line_width(d)));
+    put(d, BEGIN(primitive));
+    for (uint32_t left = draw_once_in(20) ? draw_from(20, 60) : draw_from(1, 8); left > 0; left--) {
+        put_end(d, end);
+        put_between_ends(d, stretch, primitive);
+        end = draw_end_after(d, end);
+    }
+    if (draw_once_in(2))
+        put(d, END());
+}
+
+/* ---- Any group ---- */
+
 static void put_group(draft *d, unsigned stretch)
 {
-    switch (draw_below(16)) {
+    switch (draw_below(18)) {
     case 0:
     case 1:
     case 2:
@@ -571,6 +736,10 @@ static void put_group(draft *d, unsigned stretch)
         break;
     case 12:
         put_jump(d);
+        break;
+    case 13:
+    case 14:
+        put_lines(d, stretch);
         break;
     default:
         put_settings(d);
@@ -638,7 +807,7 @@ static void write_draft(draft *d, size_t ram_g_length, frame_size aim)
 uint32_t draw_faulty_word(size_t at, size_t count)
 {
     static const uint32_t strays[] = { JV_RETURN, JV_END, JV_VERTEX2F, JV_VERTEX2II };
-    switch (draw_below(12)) {
+    switch (draw_below(15)) {
     case 0:
         return draw_no_command();
     case 1:
@@ -657,6 +826,10 @@ uint32_t draw_faulty_word(size_t at, size_t count)
         return BITMAP_HANDLE(draw());
     case 8:
         return BITMAP_SOURCE(draw());
+    case 9:
+    case 10:
+    case 11:
+        return draw_word_of(draw_once_in(2) ? JV_VERTEX_TRANSLATE_X : JV_VERTEX_TRANSLATE_Y);
     default:
         return draw_word_of(DRAW_ONE_OF(strays));
     }

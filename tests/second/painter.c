@@ -67,6 +67,13 @@ static pixel_box box_around(position low, position high, int32_t reach)
     };
 }
 
+static pixel_box box_of_segment(const segment_shape *s)
+{
+    position low = { lesser(s->from.x, s->to.x), lesser(s->from.y, s->to.y) };
+    position high = { greater(s->from.x, s->to.x), greater(s->from.y, s->to.y) };
+    return box_around(low, high, s->width);
+}
+
 /* The smallest box that has every pixel the action covers. */
 static pixel_box box_of_action(const run_action *a)
 {
@@ -76,6 +83,8 @@ static pixel_box box_of_action(const run_action *a)
         return box_around(a->point.centre, a->point.centre, a->point.size);
     case A_RECTANGLE:
         return box_around(a->rectangle.low, a->rectangle.high, a->rectangle.width);
+    case A_SEGMENT:
+        return box_of_segment(&a->segment);
     case A_BITMAP:
         return (pixel_box){ b->left, b->top, b->left + b->width, b->top + b->height };
     default:
@@ -95,7 +104,7 @@ static int32_t squared_distance(int32_t dx, int32_t dy)
     return dx * dx + dy * dy;
 }
 
-/* This and is_in_rectangle are asked of every pixel: `inline`, lest painting cost more because others ask, too. */
+/* This and the two below are asked of every pixel: `inline`, lest painting cost more because others ask, too. */
 static inline bool is_in_point(const point_shape *p, int32_t x, int32_t y)
 {
     return squared_distance(16 * x - p->centre.x, 16 * y - p->centre.y) <= p->size * p->size;
@@ -111,6 +120,24 @@ static inline bool is_in_rectangle(const rectangle_shape *r, int32_t x, int32_t 
 {
     return squared_distance(distance_to(r->low.x, r->high.x, 16 * x), distance_to(r->low.y, r->high.y, 16 * y)) <=
            r->width * r->width;
+}
+
+/* 'Its sample is no further from the closed segment than the line width.' What is nearest to the sample is the first
+   end, the second, or a point between them, and there the distance is the cross product divided by the length. Squares
+   are compared; that of a cross product, which takes up to 34 bits, is too large for 64. */
+static inline bool is_in_segment(const segment_shape *s, int32_t x, int32_t y)
+{
+    __extension__ typedef __int128 wide;
+    int64_t along_x = s->to.x - s->from.x, along_y = s->to.y - s->from.y;
+    int64_t from_x = 16 * x - s->from.x, from_y = 16 * y - s->from.y;
+    int64_t dot = from_x * along_x + from_y * along_y, length = along_x * along_x + along_y * along_y;
+    int64_t width = s->width * s->width;
+    if (dot <= 0)
+        return from_x * from_x + from_y * from_y <= width;
+    if (dot >= length)
+        return (from_x - along_x) * (from_x - along_x) + (from_y - along_y) * (from_y - along_y) <= width;
+    wide cross = from_x * along_y - from_y * along_x;
+    return cross * cross <= (wide)width * length;
 }
 
 /* ---- Texels ---- */
@@ -298,7 +325,8 @@ static void clear(const canvas *c, const run_action *a, pixel_box box)
     }
 }
 
-/* The texel of points and rectangles is white, and white times a colour is that colour: (255 * c + 127) / 255 is c. */
+/* The texel of points, rectangles and segments is white, and white times a colour is that colour: (255 * c + 127) / 255
+   is c. */
 static void draw_point(const canvas *c, const run_action *a, pixel_box box)
 {
     for (int32_t y = box.top; y < box.bottom; y++) {
@@ -315,6 +343,16 @@ static void draw_rectangle(const canvas *c, const run_action *a, pixel_box box)
         size_t at = place_of(c, box.left, y);
         for (int32_t x = box.left; x < box.right; x++, at++)
             if (is_in_rectangle(&a->rectangle, x, y))
+                draw_pixel(c, a, at, a->colour);
+    }
+}
+
+static void draw_segment(const canvas *c, const run_action *a, pixel_box box)
+{
+    for (int32_t y = box.top; y < box.bottom; y++) {
+        size_t at = place_of(c, box.left, y);
+        for (int32_t x = box.left; x < box.right; x++, at++)
+            if (is_in_segment(&a->segment, x, y))
                 draw_pixel(c, a, at, a->colour);
     }
 }
@@ -344,6 +382,9 @@ static void paint_action(void *taker, const run_action *a)
         break;
     case A_RECTANGLE:
         draw_rectangle(c, a, box);
+        break;
+    case A_SEGMENT:
+        draw_segment(c, a, box);
         break;
     case A_BITMAP:
         draw_bitmap(c, a, box);
@@ -416,6 +457,8 @@ static bool is_covered(const run_action *a, int32_t x, int32_t y)
         return is_in_point(&a->point, x, y);
     case A_RECTANGLE:
         return is_in_rectangle(&a->rectangle, x, y);
+    case A_SEGMENT:
+        return is_in_segment(&a->segment, x, y);
     case A_BITMAP:
         return true;
     default:

@@ -5,7 +5,7 @@
 enum { MOST_KEPT = 4, MOST_CALLS = 4, HANDLES = 32 };
 
 /* Primitive 0 has no meaning in BEGIN, so here it stands for none begun. */
-enum { NONE = 0, BITMAPS = 1, POINTS = 2, RECTS = 9 };
+enum { NONE = 0, BITMAPS = 1, POINTS = 2, LINES = 3, LINE_STRIP = 4, RECTS = 9 };
 
 enum { ARGB1555 = 0, L8 = 3, RGB565 = 7 };
 
@@ -24,7 +24,8 @@ enum {
     SPLIT_TARGET = 16,
     NO_PRIMITIVE = 17,
     NO_BITMAP = 18,
-    LIMIT_REACHED = 19
+    LIMIT_REACHED = 19,
+    FAR_END = 20
 };
 
 /* What SAVE_CONTEXT keeps: every value whose section of the guide calls it part of the context, and that a word which
@@ -59,8 +60,8 @@ typedef struct {
     unsigned call_count;
     bitmap_handle handles[HANDLES];
     uint32_t primitive;
-    bool has_corner;
-    position corner;
+    bool is_open; /* a vertex waits for the one that completes its rectangle or segment */
+    position open;
     uint32_t next; /* the place of the word after this one */
     size_t ram_g_length;
     take_action *take; /* NULL where nobody asks for the actions */
@@ -184,6 +185,14 @@ APART static void hand_over_rectangle(machine *m, position first, position secon
     m->take(m->taker, &action);
 }
 
+/* 'Ends are [...] compared in the order given.' */
+APART static void hand_over_segment(machine *m, position from, position to)
+{
+    run_action action = drawing(&m->now, A_SEGMENT);
+    action.segment = (segment_shape){ from, to, m->now.line_width, (uint8_t)m->primitive };
+    m->take(m->taker, &action);
+}
+
 /* Division in C goes towards zero; a pixel's number is rounded down. */
 static int32_t pixel_of(int32_t sixteenths)
 {
@@ -253,6 +262,12 @@ static bool are_equal_rectangles(rectangle_shape a, rectangle_shape b)
     return are_equal_positions(a.low, b.low) && are_equal_positions(a.high, b.high) && a.width == b.width;
 }
 
+static bool are_equal_segments(segment_shape a, segment_shape b)
+{
+    return are_equal_positions(a.from, b.from) && are_equal_positions(a.to, b.to) && a.width == b.width &&
+           a.primitive == b.primitive;
+}
+
 static bool are_equal_bitmaps(bitmap_shape a, bitmap_shape b)
 {
     return a.left == b.left && a.top == b.top && a.width == b.width && a.height == b.height &&
@@ -267,7 +282,7 @@ bool are_equal_actions(const run_action *a, const run_action *b)
            are_equal_colours(a->colour, b->colour) && are_equal_tests(a, b) &&
            are_equal_stencil_actions(a->stencil_actions, b->stencil_actions) && are_equal_blends(a->blend, b->blend) &&
            are_equal_points(a->point, b->point) && are_equal_rectangles(a->rectangle, b->rectangle) &&
-           are_equal_bitmaps(a->bitmap, b->bitmap);
+           are_equal_segments(a->segment, b->segment) && are_equal_bitmaps(a->bitmap, b->bitmap);
 }
 
 /* ---- Vertices ---- */
@@ -299,11 +314,33 @@ static uint32_t bitmap_vertex(machine *m, position at, uint32_t handle, uint32_t
 /* The first vertex opens a corner, the next draws and leaves none open, so a third opens another. */
 static void rectangle_vertex(machine *m, position at)
 {
-    if (!m->has_corner)
-        m->corner = at;
+    if (!m->is_open)
+        m->open = at;
     else if (is_asked_for_actions(m))
-        hand_over_rectangle(m, m->corner, at);
-    m->has_corner = !m->has_corner;
+        hand_over_rectangle(m, m->open, at);
+    m->is_open = !m->is_open;
+}
+
+static bool is_within_lines(position end)
+{
+    return -32768 <= end.x && end.x <= 32767 && -32768 <= end.y && end.y <= 32767;
+}
+
+/* 'In LINES vertices pair up; in a strip each vertex after the first ends a segment.' Either end may lie too far away,
+   but it is the vertex that completes the segment that is at fault. */
+static uint32_t line_vertex(machine *m, position at)
+{
+    bool completes = m->is_open;
+    position from = m->open;
+    m->open = at;
+    m->is_open = !completes || m->primitive == LINE_STRIP;
+    if (!completes)
+        return DONE;
+    if (!is_within_lines(from) || !is_within_lines(at))
+        return FAR_END;
+    if (is_asked_for_actions(m))
+        hand_over_segment(m, from, at);
+    return DONE;
 }
 
 /* `x` and `y` are in sixteenths, before the translation. */
@@ -318,6 +355,9 @@ static uint32_t vertex(machine *m, int32_t x, int32_t y, uint32_t handle, uint32
     case RECTS:
         rectangle_vertex(m, at);
         return DONE;
+    case LINES:
+    case LINE_STRIP:
+        return line_vertex(m, at);
     case BITMAPS:
         return bitmap_vertex(m, at, handle, cell);
     default:
@@ -381,21 +421,26 @@ static uint32_t return_from_call(machine *m)
     return DONE;
 }
 
+/* 'BEGIN and END drop an open corner', and 'an open end, which no context holds'. */
+static void start_primitive(machine *m, uint32_t primitive)
+{
+    m->primitive = primitive;
+    m->is_open = false;
+}
+
 static uint32_t begin(machine *m, uint32_t primitive)
 {
     if (primitive == 0 || primitive > 9)
         return NO_MEANING;
-    if (primitive != BITMAPS && primitive != POINTS && primitive != RECTS)
+    if (LINE_STRIP < primitive && primitive < RECTS)
         return NOT_DRAWN;
-    m->primitive = primitive;
-    m->has_corner = false;
+    start_primitive(m, primitive);
     return DONE;
 }
 
 static void end(machine *m)
 {
-    m->primitive = NONE;
-    m->has_corner = false;
+    start_primitive(m, NONE);
 }
 
 /* ---- Settings ---- */

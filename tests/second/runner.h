@@ -64,6 +64,13 @@ typedef struct {
     uint16_t width;
 } rectangle_shape;
 
+/* The ends stay in the order given. `primitive` is 3, LINES, or 4, LINE_STRIP: it is one of an action's values. */
+typedef struct {
+    position from, to;
+    uint16_t width;
+    uint8_t primitive;
+} segment_shape;
+
 typedef struct {
     int32_t left, top; /* in pixels, as are the next two */
     uint16_t width, height;
@@ -72,7 +79,7 @@ typedef struct {
     uint8_t format;
 } bitmap_shape;
 
-typedef enum { CLEARING, A_POINT, A_RECTANGLE, A_BITMAP } action_kind;
+typedef enum { CLEARING, A_POINT, A_RECTANGLE, A_SEGMENT, A_BITMAP } action_kind;
 
 /* Document 01, 'An action's values'. The kind says which of the shapes holds; `flags`, the three low bits of CLEAR, is
    CLEAR's alone. For CLEAR `colour` and `tag` are the clear values, and it has no tests, stencil actions or blend.
@@ -90,6 +97,7 @@ typedef struct {
     blend_factors blend;
     point_shape point;
     rectangle_shape rectangle;
+    segment_shape segment;
     bitmap_shape bitmap;
 } run_action;
 
