@@ -49,7 +49,8 @@ enum jv_number {
     JV_SPLIT_TARGET    = 16, /* CALL or JUMP to an offset that is not a multiple of 4 */
     JV_NO_PRIMITIVE    = 17, /* vertex while no primitive is begun */
     JV_NO_BITMAP       = 18, /* vertex of a bitmap that is not set up so that it can be drawn */
-    JV_LIMIT_REACHED   = 19  /* as many words fetched as the step limit allows, and the list has not ended */
+    JV_LIMIT_REACHED   = 19, /* as many words fetched as the step limit allows, and the list has not ended */
+    JV_FAR_END         = 20  /* vertex that completes a line, one of whose ends lies too far away */
 };
 
 /* ---- Commands ----------------------------------------------------------------------------------------------------
@@ -226,6 +227,15 @@ jv_bits jv_write_word(uint32_t command, uint32_t a, uint32_t b, uint32_t c, uint
  * A list is 4 to 8192 bytes, a multiple of 4: words one after the other, the lowest byte of each first. Its run starts
  * at the first word with all settings at their starting values and no bitmap handle set up, goes on word by word, by
  * CALL, RETURN and JUMP also elsewhere, and ends at DISPLAY.
+ *
+ * Of the primitives BITMAPS, POINTS, LINES, LINE_STRIP and RECTS are drawn. A vertex of BITMAPS or POINTS draws by
+ * itself. In RECTS and LINES each second vertex draws, with the one before it; in LINE_STRIP each one after the first
+ * does, a line from the one before it. Of the two, each is placed by the format and translation at its own vertex; for
+ * the rest the settings at the second one count. BEGIN and END drop a vertex that still waits for its second; to save
+ * and to restore a context leave it as it is.
+ *
+ * A line has round ends. It covers pixel (x, y) exactly when the point (16 * x, 16 * y), in sixteenths of a pixel, is no
+ * further from the segment between its ends than the line width.
  */
 
 /* What the run of a list, or of two, came to. */
@@ -240,14 +250,13 @@ typedef struct { uint32_t number, list, place, count; } jv_answer;
  * Gives in number
  *   0          the list draws: the run reached DISPLAY within the limit;
  *   1 to 4     frame, list length, RAM_G length or limit is out of bounds, tested in this order; nothing was run;
- *   10 to 19   the run stopped; at each step these are tested in this order:
+ *   10 to 20   the run stopped; at each step these are tested in this order:
  *     19   the limit's worth of words has been fetched;
  *     10   the next word starts at or past the list's end, for want of DISPLAY or after a CALL or JUMP past it;
  *     11   there is no such command;
  *     12   a field holds a value without meaning, as in jv_read_word;
- *     13   the word is not drawn yet: BEGIN of a primitive other than BITMAPS, POINTS and RECTS; BITMAP_LAYOUT with a
- *          format other than ARGB1555, L8 and RGB565; BITMAP_SIZE with BILINEAR or REPEAT; a BITMAP_TRANSFORM;
- *          PALETTE_SOURCE; MACRO;
+ *     13   the word is not drawn yet: BEGIN of an EDGE_STRIP; BITMAP_LAYOUT with a format other than ARGB1555, L8 and
+ *          RGB565; BITMAP_SIZE with BILINEAR or REPEAT; a BITMAP_TRANSFORM; PALETTE_SOURCE; MACRO;
  *     14   CALL while four calls are open;
  *     15   RETURN while no call is open;
  *     16   CALL or JUMP to an offset that is not a multiple of 4;
@@ -255,9 +264,11 @@ typedef struct { uint32_t number, list, place, count; } jv_answer;
  *     18   a vertex while BITMAPS is begun whose bitmap cannot be drawn: its handle has had no BITMAP_SOURCE, no
  *          BITMAP_LAYOUT or no BITMAP_SIZE in this run; its stride, layout height, drawn width or drawn height is 0,
  *          high bits included; its cell is not wholly inside RAM_G; or, in a format of two bytes a pixel, source or
- *          stride is odd. VERTEX2II names handle and cell itself, VERTEX2F takes those of BITMAP_HANDLE and CELL.
+ *          stride is odd. VERTEX2II names handle and cell itself, VERTEX2F takes those of BITMAP_HANDLE and CELL;
+ *     20   a vertex that completes a line of LINES or LINE_STRIP, one of whose ends, this or the one before, lies
+ *          outside -32768 to 32767 sixteenths of a pixel in x or in y, after format and translation.
  *
- * Gives in place, for 10 to 19, the byte offset of the word at fault; for 10 and 19 no word is at fault, and it is the
+ * Gives in place, for 10 to 20, the byte offset of the word at fault; for 10 and 19 no word is at fault, and it is the
  * offset of the one that would have been next. For 0 to 4 it is 0.
  *
  * Gives in count the words fetched, DISPLAY and the word at fault included; a word fetched twice counts twice. For 1 to
@@ -291,7 +302,7 @@ jv_answer jv_check(const uint8_t *list, size_t list_length, const uint8_t *ram_g
  *   0          the list draws, and every byte of both runs is painted;
  *   1 to 4     as in jv_check, tested in this order; 1 also says that a lent run has another length than it has to
  *              have, or that the frame has no such row;
- *   10 to 19   as in jv_check, with place and count.
+ *   10 to 20   as in jv_check, with place and count.
  *
  * Every number but 0 leaves each byte of both runs as it was lent. The answer's list is 0.
  *
@@ -339,16 +350,17 @@ jv_answer jv_paint_row(const uint8_t *list, size_t list_length, const uint8_t *r
  * for each row, to be written.
  *
  * A row is marked exactly when what draws in it differs between the two lists. What draws in a row are the CLEARs,
- * points, rectangles and bitmaps that cover at least one of its pixels in both frame and scissor, whatever their tests
- * and masks then let through; a CLEAR without a flag covers none. Those of the one list are held against those of the
- * other in their order and by the values that they draw with:
+ * points, lines, rectangles and bitmaps that cover at least one of its pixels in both frame and scissor, whatever their
+ * tests and masks then let through; a CLEAR without a flag covers none. Those of the one list are held against those of
+ * the other in their order and by the values that they draw with:
  *
  *   CLEAR        its flags, scissor, clear values (colour, alpha, stencil, tag) and masks (colour, stencil, tag);
  *   the others   what it is and where it lies, scissor, colour, alpha, alpha test, stencil test, stencil actions,
- *                blend, masks, tag. A point lies at its centre with its size and a rectangle between its corners, in
- *                either order, with its line width, in sixteenths of a pixel and after the translation; a bitmap at
- *                its top left pixel with its drawn size, and it has the place in RAM_G where its cell starts, format,
- *                stride and layout height.
+ *                blend, masks, tag. A point lies at its centre with its size, a rectangle between its corners, in
+ *                either order, with its line width, and a line from its first end to its second, in this order, with
+ *                its line width, in sixteenths of a pixel and after the translation; a bitmap at its top left pixel
+ *                with its drawn size, and it has the place in RAM_G where its cell starts, format, stride and layout
+ *                height. A line of LINES and one of a LINE_STRIP are different things.
  *
  * So one changed word marks the rows of everything that draws with what it sets, however far behind it that stands. A
  * word that nothing draws with marks no row: a NOP, a setting that was so already, a handle of another number with the
@@ -362,15 +374,15 @@ jv_answer jv_paint_row(const uint8_t *list, size_t list_length, const uint8_t *r
  *              old list's picture and tags holds the new list's afterwards;
  *   1 to 4     as in jv_paint, tested in this order, 1 also for marks of another length than height bytes, and 2 first
  *              of the old list, then of the new; nothing was run;
- *   10 to 19   as in jv_check: the old list does not draw, or it does and the new list does not.
+ *   10 to 20   as in jv_check: the old list does not draw, or it does and the new list does not.
  *
  * Every number but 0 leaves each byte of picture, tags and marks as it was lent.
  *
- * Gives in list, for 2 and 10 to 19, which list it is about: 1 the old one, 2 the new one. Otherwise it is 0.
+ * Gives in list, for 2 and 10 to 20, which list it is about: 1 the old one, 2 the new one. Otherwise it is 0.
  *
- * Gives in place, for 10 to 19, what jv_check gives for that list, and otherwise 0.
+ * Gives in place, for 10 to 20, what jv_check gives for that list, and otherwise 0.
  *
- * Gives in count, for 0, how many rows are marked; for 10 to 19 the words that the list at fault has fetched; otherwise
+ * Gives in count, for 0, how many rows are marked; for 10 to 20 the words that the list at fault has fetched; otherwise
  * 0.
  *
  * The lists may lie in the same bytes. RAM_G is one for both: an edit of its bytes is no edit of a list and marks

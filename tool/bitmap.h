@@ -6,8 +6,6 @@
 #include <stddef.h>
 #include <stdint.h>
 
-#include "list.h"
-
 /* In the order in which they are looked for; the first is told. */
 typedef enum { NOT_SET_UP, OF_SIZE_0, AT_ODD_BYTES, OUTSIDE_RAM_G, NOTHING_WRONG } bitmap_fault;
 
@@ -21,10 +19,6 @@ typedef struct {
     uint32_t handle, cell; /* their numbers */
     bitmap_handle bitmap;
 } drawn_bitmap;
-
-/* The bitmap of the vertex at this place, when the run comes to it as the last of so many words. All words before it
-   must be known to be good. */
-drawn_bitmap follow_to_vertex(const display_list *list, uint32_t place, uint32_t count);
 
 /* Where in RAM_G the cell starts and ends. */
 uint64_t start_of_cell(const drawn_bitmap *b);

@@ -2,11 +2,11 @@
 
 #include <inttypes.h>
 
-#include "bitmap.h"
 #include "file.h"
+#include "follow.h"
 #include "word.h"
 
-enum { MOST_LIMIT = 65536 };
+enum { MOST_LIMIT = 65536, LEAST_END = -32768, LARGEST_END = 32767 };
 
 void print_number(FILE *out, jv_answer answer)
 {
@@ -79,7 +79,7 @@ static void print_not_drawn(FILE *out, uint32_t bits)
 {
     switch (jv_read_word(bits).command) {
     case JV_BEGIN:
-        fputs("this primitive is not drawn yet. BITMAPS, POINTS and RECTS are.", out);
+        fputs("this primitive is not drawn yet. BITMAPS, POINTS, LINES, LINE_STRIP and RECTS are.", out);
         break;
     case JV_BITMAP_LAYOUT:
         fputs("bitmaps in this format are not drawn yet. Those in ARGB1555, L8 and RGB565 are.", out);
@@ -140,7 +140,7 @@ static void print_outside_ram_g(FILE *out, const drawn_bitmap *b, const finished
 
 static void print_no_bitmap(FILE *out, const finished_run *run)
 {
-    drawn_bitmap b = follow_to_vertex(run->list, run->answer.place, run->answer.count);
+    drawn_bitmap b = follow_to_vertex(run->list, run->answer.place, run->answer.count).bitmap;
     fprintf(out, "the bitmap of this vertex cannot be drawn: handle %" PRIu32, b.handle);
     switch (find_bitmap_fault(&b, run->input->ram_g_length)) {
     case NOT_SET_UP:
@@ -156,6 +156,21 @@ static void print_no_bitmap(FILE *out, const finished_run *run)
     default:
         print_outside_ram_g(out, &b, run);
     }
+}
+
+static bool is_within_reach(vertex_place end)
+{
+    return LEAST_END <= end.x && end.x <= LARGEST_END && LEAST_END <= end.y && end.y <= LARGEST_END;
+}
+
+static void print_far_end(FILE *out, const finished_run *run)
+{
+    followed_vertex v = follow_to_vertex(run->list, run->answer.place, run->answer.count);
+    bool is_first = !is_within_reach(v.before);
+    vertex_place end = is_first ? v.before : v.at;
+    fprintf(out, "the %s end of this line lies at x=%" PRId32 " y=%" PRId32 ", in sixteenths of a pixel. ",
+            is_first ? "first" : "second", end.x, end.y);
+    fprintf(out, "Both have to be %d to %d.", LEAST_END, LARGEST_END);
 }
 
 static void print_word_fault(FILE *out, const finished_run *run)
@@ -187,6 +202,9 @@ static void print_word_fault(FILE *out, const finished_run *run)
         break;
     case JV_NO_PRIMITIVE:
         fputs("a vertex while no primitive is begun. BEGIN has to come before it.", out);
+        break;
+    case JV_FAR_END:
+        print_far_end(out, run);
         break;
     default:
         print_no_bitmap(out, run);

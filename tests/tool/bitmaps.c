@@ -1,6 +1,7 @@
 /* What the tool says of a bitmap that cannot be drawn, against the library: made lists in which bitmaps are set up by
    halves, saved, called and jumped over. Whatever is told, another RAM_G mends it exactly when RAM_G is to blame. */
 #include "../../tool/bitmap.h"
+#include "../../tool/follow.h"
 
 #include <inttypes.h>
 #include <stdio.h>
@@ -94,7 +95,7 @@ static bool is_still_at_fault(const display_list *list, size_t ram_g_length, jv_
 
 static void check_cause(const display_list *list, size_t ram_g_length, jv_answer answer, unsigned counts[])
 {
-    drawn_bitmap b = follow_to_vertex(list, answer.place, answer.count);
+    drawn_bitmap b = follow_to_vertex(list, answer.place, answer.count).bitmap;
     bitmap_fault cause = find_bitmap_fault(&b, ram_g_length);
     counts[cause]++;
     holds(cause != NOTHING_WRONG, "a cause is found for the fault at %" PRIu32, answer.place);
