@@ -95,7 +95,7 @@ static size_t write_bytes(uint8_t bytes[4 * MOST_WORDS], const char *name, const
 
 static int tell_usage(void)
 {
-    fputs("usage: cost ours|theirs check|paint|repaint setters|vertices|calls|shapes|map|icons|full TIMES "
+    fputs("usage: cost ours|theirs check|paint|repaint setters|vertices|calls|shapes|map|lines|icons|full TIMES "
           "[word|action]\n"
           "       cost ours|theirs ring words|small|memset|up|down|append|host TIMES\n",
           stderr);

@@ -114,6 +114,54 @@ static void write_map(draft *d)
     put(d, DISPLAY());
 }
 
+/* ---- Lines ---- */
+
+enum { WAYS = 12, VERTICES_OF_A_WAY = 9, SHORT_COLUMNS = 12, SHORT_ROWS = 8, MIDDLE_LINE = 47 };
+
+/* A strip that goes to and fro across the frame. */
+static void put_way(draft *d, uint32_t n)
+{
+    put_colour(d, n);
+    put(d, TAG(n + 1));
+    put(d, LINE_WIDTH(8 + 12 * n));
+    put(d, BEGIN(LINE_STRIP));
+    for (uint32_t v = 0; v < VERTICES_OF_A_WAY; v++)
+        put_vertex(d, 20 + (97 * n + 173 * v) % 760, 20 + (61 * n + 89 * v) % 440);
+}
+
+/* It leads to the right, downwards or upwards, flat or steep. */
+static void put_short_line(draft *d, uint32_t n)
+{
+    uint32_t x = 10 + 66 * (n % SHORT_COLUMNS), y = 10 + 59 * (n / SHORT_COLUMNS);
+    uint32_t right = 7 * n % 50, down = 11 * n % 40;
+    put(d, LINE_WIDTH(8 + 16 * (n % 4)));
+    put_vertex(d, x, n % 2 == 0 ? y : y + down);
+    put_vertex(d, x + right, n % 2 == 0 ? y + down : y);
+}
+
+/* What is inserted is 3.5 pixels wide to either side, as the line before it, and so reaches 3 rows beyond its ends. */
+static void write_lines(draft *d)
+{
+    put_clear(d);
+    for (uint32_t n = 0; n < WAYS; n++)
+        put_way(d, n);
+    put(d, BEGIN(LINES));
+    for (uint32_t n = 0; n < SHORT_COLUMNS * SHORT_ROWS; n++) {
+        if (n == MIDDLE_LINE && d->is_word_changed)
+            put_other_colour(d);
+        else
+            put_colour(d, n);
+        put(d, TAG(WAYS + 1 + n));
+        put_short_line(d, n);
+        if (n == MIDDLE_LINE && d->is_action_inserted) {
+            put(d, BEGIN(LINES));
+            put_vertex(d, 300, 303);
+            put_vertex(d, 340, 320);
+        }
+    }
+    put(d, DISPLAY());
+}
+
 /* ---- Icons ---- */
 
 enum { ICON_SIDE = 24, ICON_CELLS = 8, ICON_HANDLES = 3, ICON_COLUMNS = 20, ICON_ROWS = 10, MIDDLE_ICON = 100 };
@@ -260,6 +308,7 @@ static const struct {
 } scenes[] = {
     { "shapes", write_shapes },
     { "map", write_map },
+    { "lines", write_lines },
     { "icons", write_icons },
     { "full", write_full },
 };
