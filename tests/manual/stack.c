@@ -13,6 +13,7 @@
 #include "jokulvisp.h"
 
 enum { WIDTH = 8, HEIGHT = 8, LIMIT = 65536, LIST_LENGTH = 8192, STACK_LENGTH = 1 << 20 };
+enum { POINTS = 2, LINE_STRIP = 4 };
 
 /* What the stack holds before the call, and how much below the caller's frame is left to memset itself. */
 enum { UNTOUCHED = 0xA5, MARGIN = 1024 };
@@ -28,13 +29,16 @@ static void put_word(uint8_t *bytes, size_t at, uint32_t bits)
         bytes[at + n] = (uint8_t)(bits >> 8 * n);
 }
 
-/* More points than the painter keeps, so that it runs the list again for each row. */
-static void make_list(uint8_t *list, uint32_t point_size)
+/* More points and lines than the painter keeps, so that it runs the list again for each row. The first half are points,
+   the rest is a strip. */
+static void make_list(uint8_t *list, uint32_t size)
 {
-    put_word(list, 0, jv_write_word(JV_POINT_SIZE, point_size, 0, 0, 0, 0).bits);
-    put_word(list, 4, jv_write_word(JV_BEGIN, 2, 0, 0, 0, 0).bits);
+    put_word(list, 0, jv_write_word(JV_POINT_SIZE, size, 0, 0, 0, 0).bits);
+    put_word(list, 4, jv_write_word(JV_LINE_WIDTH, size, 0, 0, 0, 0).bits);
     for (size_t at = 8; at < LIST_LENGTH - 4; at += 4)
         put_word(list, at, jv_write_word(JV_VERTEX2II, at / 4 % WIDTH, 1, 0, 0, 0).bits);
+    put_word(list, 8, jv_write_word(JV_BEGIN, POINTS, 0, 0, 0, 0).bits);
+    put_word(list, LIST_LENGTH / 2, jv_write_word(JV_BEGIN, LINE_STRIP, 0, 0, 0, 0).bits);
     put_word(list, LIST_LENGTH - 4, jv_write_word(JV_DISPLAY, 0, 0, 0, 0, 0).bits);
 }
 

@@ -393,6 +393,7 @@ static bool is_enough_met(void)
         { "a pair that marks all rows", met.all, LEAST_COMMON },
         { "a row kept that something reaches", met.pairs_kept_though_reached, LEAST_COMMON },
         { "a row marked that is painted as before", met.pairs_marked_though_equal, LEAST_COMMON },
+        { "a segment in a new list", met.actions[A_SEGMENT], LEAST_COMMON },
     };
     bool is_enough = are_all_numbers_met();
     for (size_t n = 0; n < sizeof wanted / sizeof wanted[0]; n++)
