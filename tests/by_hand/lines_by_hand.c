@@ -2,6 +2,7 @@
    starting values, in white with tag 255, unless a case says otherwise. */
 #include "pictures_by_hand.h"
 
+#include "../shared/check.h"
 #include "hand_pictures.h"
 
 #define LINES_OF(width) LINE_WIDTH(width), BEGIN(LINES)
@@ -412,6 +413,58 @@ static const hand_picture longest_lines[] = {
             "...") },
 };
 
+/* ---- The longest lines over the largest frame ---- */
+
+enum { WIDEST = 800, HIGHEST = 600 };
+
+/* Twice the squared distance of pixel (x, y) from the line that the diagonal is part of: x = y for the one, and for the
+   other x + y = -1 in sixteenths. */
+typedef int64_t squared_distance(int64_t x, int64_t y);
+
+static int64_t twice_from_diagonal(int64_t x, int64_t y)
+{
+    return 256 * (x - y) * (x - y);
+}
+
+static int64_t twice_from_other_diagonal(int64_t x, int64_t y)
+{
+    return (16 * x + 16 * y + 1) * (16 * x + 16 * y + 1);
+}
+
+static void check_over_frame(const char *name, uint32_t width, const uint32_t *words, size_t count,
+                             squared_distance *twice_from_line)
+{
+    static char signs[HIGHEST][WIDEST + 1];
+    static const char *rows[HIGHEST];
+    int64_t twice_width = 2 * (int64_t)width * width;
+    for (int64_t y = 0; y < HIGHEST; y++) {
+        for (int64_t x = 0; x < WIDEST; x++)
+            signs[y][x] = twice_from_line(x, y) <= twice_width ? '#' : '.';
+        rows[y] = signs[y];
+    }
+    check_picture(__FILE__, &(const hand_picture){ CASE(name), .words = words, .count = count, .rows = rows,
+                                                   .height = HIGHEST });
+}
+
+/* No end is near the frame, so every pixel has a place between the ends that is nearest to it. */
+static void check_diagonals(uint32_t width)
+{
+    const uint32_t down[] = { LINES_OF(width), FAR_AT(-32768, -32768), FAR_AT(32767, 32767), DISPLAY() };
+    const uint32_t up[] = { LINES_OF(width), FAR_AT(-32768, 32767), FAR_AT(32767, -32768), DISPLAY() };
+    check_over_frame("a diagonal over the largest frame", width, down, LENGTH(down), twice_from_diagonal);
+    check_over_frame("the other diagonal over the largest frame", width, up, LENGTH(up), twice_from_other_diagonal);
+}
+
+static void check_diagonals_of_widths(void)
+{
+    static const uint32_t widths[] = { 1, 4095 };
+    begin_part("diagonals over the largest frame");
+    for (size_t n = 0; n < LENGTH(widths); n++)
+        check_diagonals(widths[n]);
+}
+
+/* ---- What makes a line ---- */
+
 /* 'In LINES vertices pair up; in a strip each vertex after the first ends a segment.' */
 static const hand_picture pairs_and_strips[] = {
     { CASE("LINES: a third vertex opens another"), LIST(LINES_OF(0), AT(0, 0), AT(2, 0), AT(1, 2), AT(3, 2), DISPLAY()),
@@ -603,6 +656,7 @@ void check_lines_by_hand(void)
     CHECK_PICTURES("lines", lines);
     CHECK_PICTURES("lines off screen", lines_off_screen);
     CHECK_PICTURES("the longest lines", longest_lines);
+    check_diagonals_of_widths();
     CHECK_PICTURES("pairs and strips", pairs_and_strips);
     CHECK_PICTURES("open ends", open_ends);
     CHECK_PICTURES("settings of lines", settings);

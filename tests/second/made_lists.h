@@ -1,5 +1,6 @@
 /* Display lists made up from drawn numbers: most of them such as a screen tool could write, with bitmaps set up and
-   drawn, stretches called, contexts saved and restored; some with one fault in them, some spoilt, some mere noise. */
+   drawn, lines near and far, stretches called, contexts saved and restored; some with one fault in them, some spoilt,
+   some mere noise. */
 #ifndef MADE_LISTS_H
 #define MADE_LISTS_H
 
