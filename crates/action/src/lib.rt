@@ -1,4 +1,4 @@
-// A drawing action: the values of one CLEAR, point, rectangle, bitmap or segment of a line, as document 01 lists them. Two actions are compared by these values alone.
+// A drawing action: the values of one CLEAR, point, rectangle, bitmap or segment of a line, as documents 01 and 02 list them. Two actions are compared by these values alone.
 ghost use mathlib.Core.Path.{_≡_};
 ghost use Rattle.action.specs.Same.{Tells};
 

@@ -49,7 +49,7 @@ starting =
           };
     }
 
--- 'colour, alpha, tests, actions, blend, .. tag': what a point, a rectangle or a bitmap is drawn with
+-- 'colour, alpha, tests, actions, blend, .. tag': what every drawing but a CLEAR is drawn with
 unfoldable pub inkOf : Brush → Ink
 inkOf b =
     record {

@@ -16,7 +16,7 @@ use action::StencilTest;
 use action::Test;
 use units::Pixels;
 
-// What a point, rectangle or bitmap is drawn with: colour, tag, tests, stencil actions, blend.
+// What every drawing but a CLEAR is drawn with: colour, tag, tests, stencil actions, blend.
 pub struct Brush {
     pub red: u32,
     pub green: u32,
