@@ -2,22 +2,17 @@
 -- Assumes nothing.
 use Prim.Native.Nat.{ℕ}
 use mathlib.Core.Path.{_≡_, refl, sym, ap, _∙_}
-use mathlib.Core.List.{[]}
 use native.Mathlib.Omega.{arith}
-use Rattle.words.specs.declared.reading.Read.{Read}
-use Rattle.words.specs.declared.reading.Read.the-variants as r
 use Rattle.words.specs.declared.spelling.Spelling.{Spelling}
 use Rattle.words.specs.declared.telling.Spelt.{Spelt}
 use Rattle.words.specs.declared.telling.Spelt.the-variants as t
-use Rattle.words.specs.declared.word.Word.{Word}
 use Rattle.words.specs.declared.writing.Written.{Written}
 use Rattle.words.specs.declared.writing.Written.the-variants as o
-use Rattle.words.specs.Table.{spelled, spelling}
-use Rattle.words.specs.Words.{readNumber, readWord, told, writtenNumber, writeSpelling, cleared}
-use Rattle.words.proofs.Round.{read-spelling, written-read}
+use Rattle.words.specs.Words.{spellWord, writeSpelling, cleared}
+use Rattle.words.proofs.Round.{spell-written, write-spelt}
 use Rattle.jokulvisp.specs.declared.JvBits.{JvBits}
 use Rattle.jokulvisp.specs.declared.JvWord.{JvWord}
-use Rattle.jokulvisp.specs.Words.{spoken, wordTold, readTold, bitsOf, writtenTold, ReadAnswer, WriteAnswer}
+use Rattle.jokulvisp.specs.Words.{wordTold, readTold, writtenTold, ReadAnswer, WriteAnswer}
 
 -- NO SECOND ANSWER FITS.
 
@@ -31,20 +26,9 @@ write-once s p q h k = h ∙ sym k
 
 -- FROM THE CRATE `words` TO AN ANSWER.
 
--- the answer for a word as plain numbers
-abbrev pub speltTold : Spelt → JvWord
-speltTold (t.Fields s) = wordTold 0 s
-speltTold t.NoCommand = wordTold 11 (spelling 0 [])
-speltTold t.NoMeaning = wordTold 12 (spelling 0 [])
-
-told-same : (q : Read) → speltTold (told q) ≡ readTold q
-told-same (r.Command c) = refl
-told-same r.NoCommand = refl
-told-same r.NoMeaning = refl
-
-pub read-answer : (bits : ℕ) (found : Spelt) (answer : JvWord) → found ≡ told (readWord bits) → answer ≡ speltTold found → ReadAnswer bits answer
+pub read-answer : (bits : ℕ) (found : Spelt) (answer : JvWord) → found ≡ spellWord bits → answer ≡ readTold found → ReadAnswer bits answer
 unfolding ReadAnswer
-read-answer bits found answer e h = h ∙ ap speltTold e ∙ told-same (readWord bits)
+read-answer bits found answer e h = h ∙ ap readTold e
 
 pub write-answer : (s : Spelling) (made : Written) (answer : JvBits) → made ≡ writeSpelling s → answer ≡ writtenTold made → WriteAnswer s answer
 unfolding WriteAnswer
@@ -52,37 +36,31 @@ write-answer s made answer e h = h ∙ ap writtenTold e
 
 -- WRITTEN, THEN READ. Where jv_write_word answers 0, jv_read_word answers for its bits 0 and the six numbers that were written.
 
-bits-of : (q : Written) → writtenNumber q ≡ 0 → q ≡ o.Bits (bitsOf q)
+bits-of : (q : Written) → writtenTold q .number ≡ 0 → q ≡ o.Bits (writtenTold q .bits)
 bits-of (o.Bits n) h = refl
 bits-of o.NoCommand h = absurd (omega arith)
 bits-of o.NoMeaning h = absurd (omega arith)
 
 pub written-then-read : (s : Spelling) (p : JvBits) (q : JvWord) → WriteAnswer s p → p .number ≡ 0 → ReadAnswer (p .bits) q → q ≡ wordTold 0 s
 unfolding WriteAnswer ReadAnswer
-written-then-read s p q w z h = h ∙ ap readTold (back .1) ∙ ap (wordTold 0) (back .2)
+written-then-read s p q w z h = h ∙ ap readTold (spell-written s (p .bits) kept)
   where
     kept : writeSpelling s ≡ o.Bits (p .bits)
     kept = bits-of (writeSpelling s) (sym (ap (λ (x : JvBits). x .number) w) ∙ z) ∙ ap o.Bits (sym (ap (λ (x : JvBits). x .bits) w))
 
-    back : (c : Word) × (readWord (p .bits) ≡ r.Command c) × (spelled c ≡ s)
-    back = read-spelling s (p .bits) kept
-
 -- READ, THEN WRITTEN. Where jv_read_word answers 0, jv_write_word answers for its numbers 0 and the word with its reserved bits cleared.
-
-command-of : (q : Read) → readNumber q ≡ 0 → (c : Word) × (q ≡ r.Command c)
-command-of (r.Command c) h = (c, refl)
-command-of r.NoCommand h = absurd (omega arith)
-command-of r.NoMeaning h = absurd (omega arith)
 
 abbrev pub asked : JvWord → Spelling
 asked p = record { 0 = p .command; 1 = p .a; 2 = p .b; 3 = p .c; 4 = p .d; 5 = p .e }
 
+fields-of : (q : Spelt) → readTold q .number ≡ 0 → q ≡ t.Fields (asked (readTold q))
+fields-of (t.Fields s) h = refl
+fields-of t.NoCommand h = absurd (omega arith)
+fields-of t.NoMeaning h = absurd (omega arith)
+
 pub read-then-written : (bits : ℕ) (p : JvWord) (q : JvBits) → ReadAnswer bits p → p .number ≡ 0 → WriteAnswer (asked p) q → q ≡ record { number = 0; bits = cleared bits }
 unfolding ReadAnswer WriteAnswer
-read-then-written bits p q h z w = w ∙ ap writtenTold (ap writeSpelling same ∙ written-read bits (found .0) (found .1))
+read-then-written bits p q h z w = w ∙ ap writtenTold (write-spelt bits (asked p) found)
   where
-    found : (c : Word) × (readWord bits ≡ r.Command c)
-    found = command-of (readWord bits) (sym (ap (λ (x : JvWord). x .number) h) ∙ z)
-
-    same : asked p ≡ spelled (found .0)
-    same = ap asked h ∙ ap spoken (found .1)
+    found : spellWord bits ≡ t.Fields (asked p)
+    found = fields-of (spellWord bits) (sym (ap (λ (x : JvWord). x .number) h) ∙ z) ∙ ap (λ (x : JvWord). t.Fields (asked x)) (sym h)

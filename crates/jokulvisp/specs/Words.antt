@@ -3,39 +3,32 @@
 use Prim.Native.Nat.{ℕ}
 use mathlib.Core.List.{[]}
 use mathlib.Core.Path.{_≡_}
-use Rattle.words.specs.declared.reading.Read.{Read}
-use Rattle.words.specs.declared.reading.Read.the-variants as r
 use Rattle.words.specs.declared.spelling.Spelling.{Spelling}
+use Rattle.words.specs.declared.telling.Spelt.{Spelt}
+use Rattle.words.specs.declared.telling.Spelt.the-variants as t
 use Rattle.words.specs.declared.writing.Written.{Written}
 use Rattle.words.specs.declared.writing.Written.the-variants as o
-use Rattle.words.specs.Table.{spelled, spelling}
-use Rattle.words.specs.Words.{readNumber, readWord, writtenNumber, writeSpelling}
+use Rattle.words.specs.Table.{spelling}
+use Rattle.words.specs.Words.{spellWord, writeSpelling}
 use Rattle.jokulvisp.specs.declared.JvBits.{JvBits}
 use Rattle.jokulvisp.specs.declared.JvWord.{JvWord}
-
--- a command as six numbers, and 0 for each where there is none
-abbrev pub spoken : Read → Spelling
-spoken (r.Command c) = spelled c
-spoken r.NoCommand = spelling 0 []
-spoken r.NoMeaning = spelling 0 []
 
 abbrev pub wordTold : ℕ → Spelling → JvWord
 wordTold n s = record { number = n; command = s .0; a = s .1; b = s .2; c = s .3; d = s .4; e = s .5 }
 
-abbrev pub readTold : Read → JvWord
-readTold q = wordTold (readNumber q) (spoken q)
-
-abbrev pub bitsOf : Written → ℕ
-bitsOf (o.Bits n) = n
-bitsOf o.NoCommand = 0
-bitsOf o.NoMeaning = 0
+abbrev pub readTold : Spelt → JvWord
+readTold (t.Fields s) = wordTold 0 s
+readTold t.NoCommand = wordTold 11 (spelling 0 [])
+readTold t.NoMeaning = wordTold 12 (spelling 0 [])
 
 abbrev pub writtenTold : Written → JvBits
-writtenTold q = record { number = writtenNumber q; bits = bitsOf q }
+writtenTold (o.Bits n) = record { number = 0; bits = n }
+writtenTold o.NoCommand = record { number = 11; bits = 0 }
+writtenTold o.NoMeaning = record { number = 12; bits = 0 }
 
 -- jv_read_word, for every word
 unfoldable pub ReadAnswer : ℕ → JvWord → Type 0
-ReadAnswer bits answer = answer ≡ readTold (readWord bits)
+ReadAnswer bits answer = answer ≡ readTold (spellWord bits)
 
 -- jv_write_word, for every six numbers
 unfoldable pub WriteAnswer : Spelling → JvBits → Type 0

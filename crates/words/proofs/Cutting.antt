@@ -2,7 +2,6 @@
 -- Assumes nothing.
 use Prim.Native.Nat.{ℕ, zero, suc, _+_, _-_, _/_, _^_, _≤_, _<_}
 use mathlib.Core.Path.{_≡_, refl, sym, ap, subst, _∙_}
-use mathlib.Core.Bool.{Bool, true, false}
 use mathlib.Core.List.{List, [], _∷_}
 use native.Mathlib.Omega.{arith}
 use lib.ListN.{length, getD}
@@ -12,14 +11,13 @@ use Rattle.words.specs.declared.field.Field.{Field}
 use Rattle.words.specs.declared.field.Field.the-variants.{Signed}
 use Rattle.words.specs.declared.field.Layout.{Layout}
 use Rattle.words.specs.declared.telling.Spelt.the-variants as t
-use Rattle.words.specs.declared.word.Word.{Word}
 use Rattle.words.specs.Fields.{both, total, above, values, allMean}
-use Rattle.words.specs.Layout.{layoutOf, allSigns, Cuttable, Inside, Digit, spelt, speltAs}
-use Rattle.words.specs.Table.{row, Found, none, some, rowOf, apply, spelling, spelled}
-use Rattle.words.specs.Words.{command, checked, readAs, readWord, told}
+use Rattle.words.specs.Layout.{layoutOf, allSigns, Cuttable, Inside, Digit}
+use Rattle.words.specs.Table.{row, Found, none, some, rowOf}
+use Rattle.words.specs.Words.{command, spelt, decoded, spellAs, spellWord}
 use Rattle.words.proofs.Digits.{halves, above-div}
 use Rattle.words.proofs.Packing.{padded, total-padded, OfLayout, of-laid}
-use Rattle.words.proofs.Rows.{Makes, makes}
+use Rattle.words.proofs.Rows.{spelling-by}
 use Rattle.words.proofs.Table.{Sound, sound}
 use Rattle.words.proofs.Tests.{both-left, both-right}
 
@@ -58,11 +56,8 @@ signs-padded [] zero = refl
 signs-padded [] (suc k) = signs-padded [] k
 signs-padded (f ∷ fs) k = rw (signs-padded fs k)
 
-spelling-by : (n : ℕ) (ns ms : List ℕ) → ((i : ℕ) → getD ns i 0 ≡ getD ms i 0) → spelling n ns ≡ spelling n ms
-spelling-by n ns ms h = λ i. record { 0 = n; 1 = h 0 i; 2 = h 1 i; 3 = h 2 i; 4 = h 3 i; 5 = h 4 i }
-
-spelt-padded : (fs : List Field) (k n w : ℕ) → speltAs n (padded fs k) w ≡ speltAs n fs w
-spelt-padded fs k n w =
+decoded-padded : (fs : List Field) (k n w : ℕ) → decoded n (padded fs k) w ≡ decoded n fs w
+decoded-padded fs k n w =
     rw (means-padded fs k w)
     (ap (spelt (allMean fs (values fs w))) (spelling-by n (values (padded fs k) w) (values fs w) (values-padded fs k w)))
 
@@ -71,11 +66,6 @@ cuttable-padded fs k h = record { narrow = rw (total-padded fs k) (h .narrow); s
 
 -- A ROW AS THE CODE KEEPS IT.
 
-told-checked : (b : Bool) (c : Word) → told (checked b c) ≡ spelt b (spelled c)
-unfolding checked spelt
-told-checked true c = refl
-told-checked false c = refl
-
 -- a command's fields and, up to five, fields without bits
 abbrev pub filled : List Field → List Field
 filled fs = padded fs (5 - length fs)
@@ -83,32 +73,27 @@ filled fs = padded fs (5 - length fs)
 -- what a layout says of the word w, whose command's number is n
 pub record Tells (w n : ℕ) (fs : List Field) : Type 0 where
   pub cuttable : Cuttable (filled fs)
-  pub tells : speltAs n (filled fs) w ≡ told (readWord w)
+  pub tells : decoded n (filled fs) w ≡ spellWord w
 
-pub telling : (w : ℕ) {n : ℕ} {f l : Layout} → n ≡ command w → f ≡ layoutOf (rowOf n) → f ≡ l → OfLayout (told (readWord w) ≡ t.NoCommand) (Tells w n) l
-unfolding readWord
-telling w {n} e g h =
-    subst
-    (OfLayout (told (readWord w) ≡ t.NoCommand) (Tells w n))
-    (sym g ∙ h)
-    (go (rowOf n) refl (sound n) (makes n))
+pub telling : (w : ℕ) {n : ℕ} {f l : Layout} → n ≡ command w → f ≡ layoutOf (rowOf n) → f ≡ l → OfLayout (spellWord w ≡ t.NoCommand) (Tells w n) l
+unfolding spellWord
+telling w {n} e g h = subst (OfLayout (spellWord w ≡ t.NoCommand) (Tells w n)) (sym g ∙ h) (go (rowOf n) refl (sound n))
   where
-    reads : (f : Found) → rowOf n ≡ f → readWord w ≡ readAs f w
-    reads f q = rw (← e, q)
+    spells : (f : Found) → rowOf n ≡ f → spellWord w ≡ spellAs f w
+    spells f q = rw (← e, q)
 
-    go : (f : Found) → rowOf n ≡ f → Sound n f → Makes n f → OfLayout (told (readWord w) ≡ t.NoCommand) (Tells w n) (layoutOf f)
-    go none q p m = ap told (reads none q)
-    go (some (row code fs make)) q p m =
+    go : (f : Found) → rowOf n ≡ f → Sound n f → OfLayout (spellWord w ≡ t.NoCommand) (Tells w n) (layoutOf f)
+    go none q p = spells none q
+    go (some (row code fs make)) q p =
         of-laid
-        (told (readWord w) ≡ t.NoCommand)
+        (spellWord w ≡ t.NoCommand)
         (Tells w n)
         fs
         (p .few)
         (record {
           cuttable = cuttable-padded fs (5 - length fs) (record { narrow = p .narrow; signed = p .signed });
           tells =
-              spelt-padded fs (5 - length fs) n w
-              ∙ ap (spelt (allMean fs (values fs w))) (sym (m w))
-              ∙ sym (told-checked (allMean fs (values fs w)) (apply fs make (values fs w)))
-              ∙ ap told (sym (reads (some (row code fs make)) q));
+              decoded-padded fs (5 - length fs) n w
+              ∙ ap (λ (m : ℕ). decoded m fs w) (sym (p .own))
+              ∙ sym (spells (some (row code fs make)) q);
         })

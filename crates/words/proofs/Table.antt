@@ -45,17 +45,19 @@ top-cases code bits h =
     vertex : (eqb code 0x40 ≡ true) ⊎ (eqb code 0x80 ≡ true) → (code ≡ 0x40) ⊎ (code ≡ 0x80)
     vertex v = ⊎-elim (λ e. inl (eqb-true _ _ e)) (λ e. inr (eqb-true _ _ e)) v
 
--- what the test says of a row
-pub record Proper (n : ℕ) (fs : List Field) : Type 0 where
+-- what the test says of the row that is found for the number n
+pub record Proper (n code : ℕ) (fs : List Field) : Type 0 where
+  pub own : code ≡ n
   pub few : length fs ≤ 5
   pub signed : allSigns fs ≡ true
   pub low : n ≤ 128
   pub narrow : total fs ≤ 30
   pub place : ((n < 46) × (total fs ≤ 24)) ⊎ ((n ≡ 0x40) ⊎ (n ≡ 0x80))
 
-proper-row : (code : ℕ) (fs : List Field) (make : Make fs) → proper (row code fs make) ≡ true → Proper code fs
+proper-row : (code : ℕ) (fs : List Field) (make : Make fs) → proper (row code fs make) ≡ true → Proper code code fs
 unfolding proper
 proper-row code fs make p = record {
+  own = refl;
   few = leb-true _ _ (both-left _ _ (both-left _ _ p));
   signed = both-right _ _ (both-left _ _ p);
   low = ⊎-elim (λ a. omega (arith, a .0)) (λ b. ⊎-elim (λ v. omega arith) (λ v. omega arith) (b .0)) cases;
@@ -66,42 +68,21 @@ proper-row code fs make p = record {
     cases : ((code < 46) × (total fs ≤ 24)) ⊎ (((code ≡ 0x40) ⊎ (code ≡ 0x80)) × (total fs ≤ 30))
     cases = top-cases code (total fs) (both-right _ _ p)
 
--- THE FOUND ROW. What holds of each row holds of the one that is found, with the number that it is found for.
+abbrev pub Sound : ℕ → Found → Type 0
+Sound n none = Unit {0}
+Sound n (some (row code fs make)) = Proper n code fs
 
-infixr 4 _⨾_
-pub data Pair (A B : Type 0) : Type 0 where
-  _⨾_ : A → B → Pair A B
-
--- P holds of each row, with its own number
-abbrev pub Each : (ℕ → Row → Type 0) → List Row → Type 0
-Each P [] = Unit {0}
-Each P (row code fs make ∷ rs) = Pair (P code (row code fs make)) (Each P rs)
-
-abbrev pub OfFound : (Row → Type 0) → Found → Type 0
-OfFound P none = Unit {0}
-OfFound P (some r) = P r
-
-pub of-found : (P : ℕ → Row → Type 0) (rs : List Row) (n : ℕ) → Each P rs → OfFound (P n) (find n rs)
-of-found P [] n e = tt
-of-found P (row code fs make ∷ rs) n (h ⨾ hs) = go (eqb n code) refl (of-found P rs n hs)
+sound-in : (rs : List Row) (n : ℕ) → allProper rs ≡ true → Sound n (find n rs)
+unfolding allProper
+sound-in [] n p = tt
+sound-in (row code fs make ∷ rs) n p = go (eqb n code) refl (sound-in rs n (both-right _ _ p))
   where
-    go : (t : Bool) → eqb n code ≡ t → OfFound (P n) (find n rs) → OfFound (P n) (cond t (some (row code fs make)) (find n rs))
-    go true e rest = rw (eqb-true n code e) h
+    go : (t : Bool) → eqb n code ≡ t → Sound n (find n rs) → Sound n (cond t (some (row code fs make)) (find n rs))
+    go true e rest = rw (eqb-true n code e) (proper-row code fs make (both-left _ _ p))
     go false e rest = rest
 
-abbrev pub ProperRow : ℕ → Row → Type 0
-ProperRow n (row code fs make) = Proper n fs
-
-each-proper : (rs : List Row) → allProper rs ≡ true → Each ProperRow rs
-unfolding allProper
-each-proper [] p = tt
-each-proper (row code fs make ∷ rs) p = proper-row code fs make (both-left _ _ p) ⨾ each-proper rs (both-right _ _ p)
-
-abbrev pub Sound : ℕ → Found → Type 0
-Sound n = OfFound (ProperRow n)
-
 pub sound : (n : ℕ) → Sound n (rowOf n)
-sound n = of-found ProperRow rows n (each-proper rows rows-proper)
+sound n = sound-in rows n rows-proper
 
 no-code : (n code bits : ℕ) → topped code bits ≡ true → 46 ≤ n → (n ≡ 0x40 → ⊥) → (n ≡ 0x80 → ⊥) → n ≡ code → ⊥
 no-code n code bits t l h k e =
@@ -137,8 +118,8 @@ no-vertex (suc (suc zero)) w h = absurd (not-suc-le-zero (le-of-suc-le-suc (le-o
 no-vertex (suc (suc (suc t))) w h = refl
 
 -- a word with a row's number at the top and its fields below has that row's command
-pub command-of : {n : ℕ} {fs : List Field} → Proper n fs → (j : ℕ) → j < 2 ^ total fs → command (n * 2 ^ 24 + j) ≡ n
-command-of {n} {fs} p j h = ⊎-elim by-byte (λ v. ⊎-elim first second v) (p .place)
+pub command-of : {n code : ℕ} {fs : List Field} → Proper n code fs → (j : ℕ) → j < 2 ^ total fs → command (n * 2 ^ 24 + j) ≡ n
+command-of {n} {code} {fs} p j h = ⊎-elim by-byte (λ v. ⊎-elim first second v) (p .place)
   where
     below : j < 2 ^ 30
     below = omega (arith, pow-mono (p .narrow))

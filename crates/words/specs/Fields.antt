@@ -33,11 +33,6 @@ meant ScissorSide n = leb n 2048
 
 -- SIGNED NUMBERS. A field of k bits holds -half .. half - 1, where half is 2 ^ k / 2.
 
--- the number z as 32 bits in two's complement; where they do not hold it, 2 ^ 31, which no field holds
-abbrev pub complement : ℤ → ℕ
-complement (pos n) = cond (ltb n (2 ^ 31)) n (2 ^ 31)
-complement (negsuc n) = cond (ltb n (2 ^ 31)) (2 ^ 32 - suc n) (2 ^ 31)
-
 -- the number that 32 bits in two's complement stand for
 abbrev pub int : ℕ → ℤ
 int n = cond (ltb n (2 ^ 31)) (pos n) (negsuc (2 ^ 32 - suc n))

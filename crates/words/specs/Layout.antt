@@ -1,6 +1,6 @@
 -- How the code keeps a row of the table, packs a word and cuts it apart. The meaning of a word does not rest on this page.
 use Prim.Native.Nat.{ℕ, _+_, _*_, _/_, _%_, _^_, _≤_, _<_}
-use mathlib.Core.Bool.{Bool, true, false}
+use mathlib.Core.Bool.{Bool, true}
 use mathlib.Core.List.{List, [], _∷_}
 use mathlib.Core.Path.{_≡_}
 use lib.Dec.{leb}
@@ -8,13 +8,10 @@ use Rattle.words.specs.declared.field.Field.{Field}
 use Rattle.words.specs.declared.field.Field.the-variants.{Bits, Only, Signed}
 use Rattle.words.specs.declared.field.Layout.{Layout}
 use Rattle.words.specs.declared.field.Layout.the-variants.{NoCommand, None, One, Two, Three, Four, Five}
-use Rattle.words.specs.declared.spelling.Spelling.{Spelling}
 use Rattle.words.specs.declared.telling.Piece.{Piece}
-use Rattle.words.specs.declared.telling.Spelt.{Spelt}
-use Rattle.words.specs.declared.telling.Spelt.the-variants as t
 use Rattle.words.specs.declared.writing.Packed.{Packed}
-use Rattle.words.specs.Fields.{both, width, value, total, values, allMean}
-use Rattle.words.specs.Table.{row, Found, none, some, spelling}
+use Rattle.words.specs.Fields.{both, width, value, total}
+use Rattle.words.specs.Table.{row, Found, none, some}
 
 -- a command's fields as the code keeps them; no command has more than five
 abbrev pub laid : List Field → Layout
@@ -78,12 +75,3 @@ pub record Digit (f : Field) (n : ℕ) : Type 0 where
 pub record Apart (w : ℕ) (f : Field) (low : ℕ) (r : Piece) : Type 0 where
   pub number : r .number ≡ value f (w / 2 ^ low % 2 ^ width f)
   pub used : r .used ≡ width f + low
-
--- a word as plain numbers, where each has a meaning
-unfoldable pub spelt : Bool → Spelling → Spelt
-spelt true s = t.Fields s
-spelt false s = t.NoMeaning
-
--- the word w by its command's number n and fields fs
-abbrev pub speltAs : ℕ → List Field → ℕ → Spelt
-speltAs n fs w = spelt (allMean fs (values fs w)) (spelling n (values fs w))

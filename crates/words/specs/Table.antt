@@ -13,7 +13,7 @@ use Rattle.words.specs.declared.field.Meaning.the-variants.{Function, St
 use Rattle.words.specs.declared.spelling.Spelling.{Spelling}
 use Rattle.words.specs.declared.word.Word.{Word}
 use Rattle.words.specs.declared.word.Word.the-variants as v
-use Rattle.words.specs.Fields.{complement, int}
+use Rattle.words.specs.Fields.{int}
 
 -- what makes a command of its fields' numbers: a signed field asks for an integer
 abbrev pub Make : List Field → Type 0
@@ -26,10 +26,10 @@ Make (Signed k ∷ fs) = ℤ → Make fs
 pub data Row : Type 0 where
   row : ℕ → (fs : List Field) → Make fs → Row
 
--- The order of the colours, said here alone: red in the high byte, green in the middle one, blue in the low one. It serves both
--- ways, from the bytes to the colours and back (docs/DECISIONS.md, 'The order of the colours').
-abbrev pub colours : {A : Type 0} → (ℕ → ℕ → ℕ → A) → ℕ → ℕ → ℕ → A
-colours f high middle low = f high middle low
+-- The order of the colours, said here alone: red in the high byte, green in the middle one, blue in the low one
+-- (docs/DECISIONS.md, 'The order of the colours').
+abbrev pub colours : (ℕ → ℕ → ℕ → Word) → ℕ → ℕ → ℕ → Word
+colours rgb high middle low = rgb high middle low
 
 -- `Bits k` is a field of k bits, `Only k m` one whose numbers name an m, `Signed k` one in two's complement.
 abbrev pub rows : List Row
@@ -112,54 +112,3 @@ spelling code ns = record { 0 = code; 1 = getD ns 0 0; 2 = getD ns 1 0; 3 = getD
 
 abbrev pub numbers : Spelling → List ℕ
 numbers s = s .1 ∷ s .2 ∷ s .3 ∷ s .4 ∷ s .5 ∷ []
-
--- the spelling of a command
-abbrev pub spelled : Word → Spelling
-spelled (v.Vertex2f x y) = spelling 0x40 (complement x ∷ complement y ∷ [])
-spelled (v.Vertex2ii x y handle cell) = spelling 0x80 (x ∷ y ∷ handle ∷ cell ∷ [])
-spelled v.Display = spelling 0x00 []
-spelled (v.BitmapSource addr) = spelling 0x01 (addr ∷ [])
-spelled (v.ClearColorRgb red green blue) = colours (λ high middle low. spelling 0x02 (high ∷ middle ∷ low ∷ [])) red green blue
-spelled (v.Tag s) = spelling 0x03 (s ∷ [])
-spelled (v.ColorRgb red green blue) = colours (λ high middle low. spelling 0x04 (high ∷ middle ∷ low ∷ [])) red green blue
-spelled (v.BitmapHandle handle) = spelling 0x05 (handle ∷ [])
-spelled (v.Cell cell) = spelling 0x06 (cell ∷ [])
-spelled (v.BitmapLayout format linestride height) = spelling 0x07 (format ∷ linestride ∷ height ∷ [])
-spelled (v.BitmapSize filter wrapx wrapy width height) = spelling 0x08 (filter ∷ wrapx ∷ wrapy ∷ width ∷ height ∷ [])
-spelled (v.AlphaFunc func reference) = spelling 0x09 (func ∷ reference ∷ [])
-spelled (v.StencilFunc func reference mask) = spelling 0x0A (func ∷ reference ∷ mask ∷ [])
-spelled (v.BlendFunc src dst) = spelling 0x0B (src ∷ dst ∷ [])
-spelled (v.StencilOp sfail spass) = spelling 0x0C (sfail ∷ spass ∷ [])
-spelled (v.PointSize size) = spelling 0x0D (size ∷ [])
-spelled (v.LineWidth width) = spelling 0x0E (width ∷ [])
-spelled (v.ClearColorA alpha) = spelling 0x0F (alpha ∷ [])
-spelled (v.ColorA alpha) = spelling 0x10 (alpha ∷ [])
-spelled (v.ClearStencil s) = spelling 0x11 (s ∷ [])
-spelled (v.ClearTag t) = spelling 0x12 (t ∷ [])
-spelled (v.StencilMask mask) = spelling 0x13 (mask ∷ [])
-spelled (v.TagMask mask) = spelling 0x14 (mask ∷ [])
-spelled (v.BitmapTransformA a) = spelling 0x15 (complement a ∷ [])
-spelled (v.BitmapTransformB b) = spelling 0x16 (complement b ∷ [])
-spelled (v.BitmapTransformC c) = spelling 0x17 (complement c ∷ [])
-spelled (v.BitmapTransformD d) = spelling 0x18 (complement d ∷ [])
-spelled (v.BitmapTransformE e) = spelling 0x19 (complement e ∷ [])
-spelled (v.BitmapTransformF f) = spelling 0x1A (complement f ∷ [])
-spelled (v.ScissorXy x y) = spelling 0x1B (x ∷ y ∷ [])
-spelled (v.ScissorSize width height) = spelling 0x1C (width ∷ height ∷ [])
-spelled (v.Call dest) = spelling 0x1D (dest ∷ [])
-spelled (v.Jump dest) = spelling 0x1E (dest ∷ [])
-spelled (v.Begin prim) = spelling 0x1F (prim ∷ [])
-spelled (v.ColorMask r g b a) = spelling 0x20 (r ∷ g ∷ b ∷ a ∷ [])
-spelled v.End = spelling 0x21 []
-spelled v.SaveContext = spelling 0x22 []
-spelled v.RestoreContext = spelling 0x23 []
-spelled v.Return = spelling 0x24 []
-spelled (v.Macro m) = spelling 0x25 (m ∷ [])
-spelled (v.Clear c s t) = spelling 0x26 (c ∷ s ∷ t ∷ [])
-spelled (v.VertexFormat frac) = spelling 0x27 (frac ∷ [])
-spelled (v.BitmapLayoutH linestride height) = spelling 0x28 (linestride ∷ height ∷ [])
-spelled (v.BitmapSizeH width height) = spelling 0x29 (width ∷ height ∷ [])
-spelled (v.PaletteSource addr) = spelling 0x2A (addr ∷ [])
-spelled (v.VertexTranslateX x) = spelling 0x2B (complement x ∷ [])
-spelled (v.VertexTranslateY y) = spelling 0x2C (complement y ∷ [])
-spelled v.Nop = spelling 0x2D []

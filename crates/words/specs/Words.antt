@@ -12,7 +12,7 @@ use Rattle.words.specs.declared.telling.Spelt.the-variants as t
 use Rattle.words.specs.declared.writing.Written.{Written}
 use Rattle.words.specs.declared.writing.Written.the-variants as o
 use Rattle.words.specs.Fields.{values, allMean, fit, join, total}
-use Rattle.words.specs.Table.{row, Found, none, some, rowOf, apply, numbers, spelled}
+use Rattle.words.specs.Table.{row, Found, none, some, rowOf, apply, spelling, numbers}
 
 -- 'Two top bits 01: VERTEX2F, 10: VERTEX2II. Otherwise the top byte'; two top bits 11 are no command's.
 abbrev pub byTopBits : ℕ → ℕ → ℕ
@@ -37,11 +37,20 @@ readAs (some (row code fs make)) w = checked (allMean fs (values fs w)) (apply f
 unfoldable pub readWord : ℕ → Read
 readWord w = readAs (rowOf (command w)) w
 
--- what is read, as plain numbers: include/jokulvisp.h, 'the word's command, and its fields'
-abbrev pub told : Read → Spelt
-told (r.Command c) = t.Fields (spelled c)
-told r.NoCommand = t.NoCommand
-told r.NoMeaning = t.NoMeaning
+-- READING AS PLAIN NUMBERS, by the same row. include/jokulvisp.h: 'the word's command, and its fields'.
+unfoldable pub spelt : Bool → Spelling → Spelt
+spelt true s = t.Fields s
+spelt false s = t.NoMeaning
+
+abbrev pub decoded : ℕ → List Field → ℕ → Spelt
+decoded code fs w = spelt (allMean fs (values fs w)) (spelling code (values fs w))
+
+abbrev pub spellAs : Found → ℕ → Spelt
+spellAs none w = t.NoCommand
+spellAs (some (row code fs make)) w = decoded code fs w
+
+unfoldable pub spellWord : ℕ → Spelt
+spellWord w = spellAs (rowOf (command w)) w
 
 -- WRITING. 11 as in reading, 12 also for a field that its bits cannot hold. Bits that no field has are 0.
 unfoldable pub written : Bool → ℕ → Written
@@ -58,9 +67,6 @@ writeAs (some (row code fs make)) s = encoded fs s
 unfoldable pub writeSpelling : Spelling → Written
 writeSpelling s = writeAs (rowOf (s .0)) s
 
-abbrev pub writeWord : Word → Written
-writeWord c = writeSpelling (spelled c)
-
 -- RESERVED BITS. The word with nothing but its command's number at the top and its fields at the bottom.
 abbrev pub clearedAs : Found → ℕ → ℕ
 clearedAs none w = w
@@ -68,14 +74,3 @@ clearedAs (some (row code fs make)) w = command w * 2 ^ 24 + w % 2 ^ total fs
 
 unfoldable pub cleared : ℕ → ℕ
 cleared w = clearedAs (rowOf (command w)) w
-
--- THE NUMBERS of document 01's table.
-abbrev pub readNumber : Read → ℕ
-readNumber (r.Command c) = 0
-readNumber r.NoCommand = 11
-readNumber r.NoMeaning = 12
-
-abbrev pub writtenNumber : Written → ℕ
-writtenNumber (o.Bits n) = 0
-writtenNumber o.NoCommand = 11
-writtenNumber o.NoMeaning = 12

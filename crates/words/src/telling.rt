@@ -3,9 +3,9 @@
 ghost use mathlib.Core.Path.{_≡_};
 ghost use Prim.Native.Nat.{_+_, _^_, _≤_, _<_};
 ghost use Rattle.words.specs.Fields.{allMean, extended, value, values};
-ghost use Rattle.words.specs.Layout.{Apart, Cuttable, Digit, Inside, five, speltAs};
+ghost use Rattle.words.specs.Layout.{Apart, Cuttable, Digit, Inside, five};
 ghost use Rattle.words.specs.Table.{numbers, spelling};
-ghost use Rattle.words.specs.Words.{command, readWord, told};
+ghost use Rattle.words.specs.Words.{command, decoded, spellWord};
 use crate::field::Field;
 use crate::field::Layout;
 use crate::field::both;
@@ -113,7 +113,7 @@ fn are_meaningful(s: Spelling, a: Field, b: Field, c: Field, d: Field, e: Field)
 
 fn spell_fields(number: u32, w: u32, a: Field, b: Field, c: Field, d: Field, e: Field) -> Spelt
     requires { ⌜ Cuttable (five a b c d e) ⌝ }
-    ensures { λ r. ⌜ r ≡ speltAs number (five a b c d e) w ⌝ }
+    ensures { λ r. ⌜ r ≡ decoded number (five a b c d e) w ⌝ }
 {
     let s = cut_all(number, w, a, b, c, d, e);
     if are_meaningful(s, a, b, c, d, e) {
@@ -123,7 +123,7 @@ fn spell_fields(number: u32, w: u32, a: Field, b: Field, c: Field, d: Field, e: 
 }
 
 pub fn spell_bits(w: u32) -> Spelt
-    ensures { λ r. ⌜ r ≡ told (readWord w) ⌝ }
+    ensures { λ r. ⌜ r ≡ spellWord w ⌝ }
 {
     let no = Field::Bits(0);
     let number = command_of(w);

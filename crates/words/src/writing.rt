@@ -1,10 +1,10 @@
 // A command written: the word that holds it, or why no word does.
 ghost use mathlib.Core.Path.{_≡_};
-ghost use Prim.Native.Nat.{_+_, _^_, _≤_, _<_};
+ghost use Prim.Native.Nat.{_≤_};
 ghost use Rattle.words.specs.Fields.{fit, join, total};
 ghost use Rattle.words.specs.Table.{numbers};
 ghost use Rattle.words.specs.Layout.{Laid, Room, five};
-ghost use Rattle.words.specs.Words.{encoded, writeSpelling, writeWord, written};
+ghost use Rattle.words.specs.Words.{encoded, writeSpelling};
 use crate::field::Field;
 use crate::field::Layout;
 use crate::field::both;
@@ -13,8 +13,6 @@ use crate::field::is_held;
 use crate::field::power;
 use crate::field::width_of;
 use crate::spelling::Spelling;
-use crate::spelling::spell;
-use crate::word::Word;
 
 // Numbers 0, 11 and 12 of document 01's table.
 pub enum Written {
@@ -97,10 +95,4 @@ pub fn write_spelling(s: Spelling) -> Written
         Layout::Four(a, b, c, d) => encode(s, a, b, c, d, no),
         Layout::Five(a, b, c, d, e) => encode(s, a, b, c, d, e),
     }
-}
-
-pub fn write_word(word: Word) -> Written
-    ensures { λ r. ⌜ r ≡ writeWord word ⌝ }
-{
-    write_spelling(spell(word))
 }

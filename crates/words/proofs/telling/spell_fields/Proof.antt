@@ -1,5 +1,5 @@
 use borrow.Author.Needs.{needs}
-use Rattle.words.specs.Layout.{spelt}
+use Rattle.words.specs.Words.{spelt}
 use Rattle.words.proofs.telling.spell_fields.Statement.{statement}
 use Rattle.words.proofs.telling.spell_fields.Tie as tie
 
