@@ -21,13 +21,6 @@ on-count allowed left r some within =
     let k : allowed - left + (r .count + 1) ≡ allowed - (left - 1) + r .count = omega arith in
     rw k
 
-module _ (list : List ℕ) (memory : ℕ) (x : State) (allowed left : ℕ) where
-  pub spent : left ≡ 0 → (rest : Ran) → more (allowed - left) (run list memory left x) ≡ then (allowed - left) (f.Over 19 (placeOf x)) rest
-  unfolding run then
-  spent z rest =
-      let k : allowed - 0 + 0 ≡ allowed - 0 = omega arith in
-      rw (z, k)
-
 module _ (list : List ℕ) (memory : ℕ) (x : State) (allowed : ℕ) where
   pub past : (left : ℕ) → 0 < left → length list ≤ placeOf x → (rest : Ran) → more (allowed - left) (run list memory left x) ≡ then (allowed - left) (f.Over 10 (placeOf x)) rest
   unfolding run then

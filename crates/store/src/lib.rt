@@ -35,9 +35,9 @@ pub fn get(k: usize, numbers: &[u32], places: &[u64]) -> Action
     requires { ⌜ Room k (now numbers) (now places) ⌝ }
     ensures { λ r. ⌜ r ≡ keptAt (now (numbers .entry)) (now (places .entry)) k ⌝ }
 {
-    let a = NUMBERS * k;
-    let b = PLACES * k;
-    let e = a + NUMBERS;
-    let f = b + PLACES;
-    reading::action_in(&numbers[a..e], &places[b..f])
+    let number = NUMBERS * k;
+    let place = PLACES * k;
+    let numbers_end = number + NUMBERS;
+    let places_end = place + PLACES;
+    reading::action_in(&numbers[number..numbers_end], &places[place..places_end])
 }

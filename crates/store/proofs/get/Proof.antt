@@ -4,17 +4,17 @@ use borrow.Author.Needs.{needs}
 use Rattle.store.proofs.get.Statement.{statement}
 use Rattle.store.proofs.get.Tie as tie
 
-mul-a : tie.Need-mul-a
-mul-a c = search needs
+mul-number : tie.Need-mul-number
+mul-number c = search needs
 
-mul-b : tie.Need-mul-b
-mul-b c = search needs
+mul-place : tie.Need-mul-place
+mul-place c = search needs
 
-add-e : tie.Need-add-e
-add-e c = search needs
+add-numbers-end : tie.Need-add-numbers-end
+add-numbers-end c = search needs
 
-add-f : tie.Need-add-f
-add-f c = search needs
+add-places-end : tie.Need-add-places-end
+add-places-end c = search needs
 
 mul-action-in : tie.Need-mul-action-in
 mul-action-in c = search needs
@@ -51,10 +51,10 @@ pub get-spec : {M : Type 1} → statement M
 get-spec =
     tie.close
     (tie.spec
-    mul-a
-    mul-b
-    add-e
-    add-f
+    mul-number
+    mul-place
+    add-numbers-end
+    add-places-end
     mul-action-in
     sub-action-in
     part-action-in-start

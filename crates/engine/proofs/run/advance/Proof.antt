@@ -1,23 +1,34 @@
 use mathlib.Core.Logic.{⊎-elim}
 use mathlib.Core.Path.{_≡_, ap, sym, _∙_}
-use Prim.Native.Nat.{_+_, _-_, _<_, _≤_}
+use Prim.Native.Nat.{ℕ, _+_, _-_, _<_, _≤_}
 use native.Mathlib.Omega.{arith}
+use mathlib.Core.List.{List}
 use lib.ListN.{length}
 use borrow.Author.Needs.{needs}
 use Rattle.engine.specs.Changes.{withContext}
 use Rattle.engine.specs.Kept.{newest, dropped, pushed}
-use Rattle.engine.specs.Run.{State, Ran, Spent, more, heard, run as ran}
+use Rattle.engine.specs.declared.run.Find.the-variants as f
+use Rattle.engine.specs.Run.{State, Ran, Spent, placeOf, more, then, heard, run}
 use Rattle.engine.proofs.Four.{long}
 use Rattle.engine.proofs.Keeping.{some-kept, four-kept, newest-there, newest-none, restored}
-use Rattle.engine.proofs.Turns.{past, spent, on-quiet, on-save, on-restore, on-draw, drew as told, ended, faulted}
+use Rattle.engine.proofs.Turns.{past, on-quiet, on-save, on-restore, on-draw, drew as told, ended, faulted}
 use Rattle.engine.proofs.run.advance.Statement.{statement}
 use Rattle.engine.proofs.run.advance.Tie as tie
+
+-- The limit is used up: 19, wherever the next word lies.
+spent :
+    (list : List ℕ) (memory : ℕ) (x : State) (allowed left : ℕ) → left ≡ 0 → (rest : Ran) →
+    more (allowed - left) (run list memory left x) ≡ then (allowed - left) (f.Over 19 (placeOf x)) rest
+unfolding run then
+spent list memory x allowed left z rest =
+    let k : allowed - 0 + 0 ≡ allowed - 0 = omega arith in
+    rw (z, k)
 
 abbrev Inv-loop : tie.InvT-loop
 Inv-loop handles₀ list memory allowed halt now₀ kept₀ left₀ handles now kept left =
     (left ≤ allowed) × ((length (kept .contexts) ≡ 4) ×
-    (heard halt (ran list memory allowed (record { engine = record { now = now₀; kept = kept₀ }; handles = handles₀ })) ≡
-    heard halt (more (allowed - left) (ran list memory left (record { engine = record { now = now; kept = kept }; handles = handles })))))
+    (heard halt (run list memory allowed (record { engine = record { now = now₀; kept = kept₀ }; handles = handles₀ })) ≡
+    heard halt (more (allowed - left) (run list memory left (record { engine = record { now = now; kept = kept }; handles = handles })))))
 
 abbrev μ-loop : tie.MeasureT-loop
 μ-loop handles₀ list memory allowed halt now₀ kept₀ left₀ handles now kept left = left
@@ -25,7 +36,7 @@ abbrev μ-loop : tie.MeasureT-loop
 loop-holds : tie.Need-loop-holds Inv-loop μ-loop
 loop-holds c =
     let a = c .before .before .before .args in
-    let r : Ran = ran (a .list .now) (a .memory) (a .allowed) (record { engine = a .from; handles = a .handles .now }) in
+    let r : Ran = run (a .list .now) (a .memory) (a .allowed) (record { engine = a .from; handles = a .handles .now }) in
     let k : a .allowed - a .allowed + r .count ≡ r .count = omega arith in
     (search needs, (search (needs, long), rw k))
 
