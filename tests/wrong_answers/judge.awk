@@ -114,11 +114,12 @@ file == 2 && /^fn .*: no proof: expected / {
 # Whether an error in the function's own proof is about what the wrong answer is to break there.
 function is_meant(k, i) { return need[k] == "" ? error_fact[i] !~ /-requires(-[0-9]+)?$/ : error_fact[i] == need[k] }
 
-function judge(k,    i, kind, own, other, elsewhere, why) {
+function judge(k,    i, kind, own, other, elsewhere, follows, why) {
     for (i = 1; i <= errors; i++) {
         kind = error_kind[i]
-        if (kind == "follows") continue
-        if (error_where[i] != breaks[k]) {
+        if (kind == "follows") {
+            if (error_where[i] == breaks[k]) follows = 1
+        } else if (error_where[i] != breaks[k]) {
             if (!index(", " elsewhere ", ", ", " error_where[i] ", ")) elsewhere = elsewhere (elsewhere == "" ? "" : ", ") error_where[i]
         } else if (!is_meant(k, i)) {
             if (other == "") other = " at " error_fact[i] " only"
@@ -132,6 +133,7 @@ function judge(k,    i, kind, own, other, elsewhere, why) {
         }
     }
     if (own other != "") why = breaks[k] " breaks" (own == "" ? other : own)
+    else if (follows) why = breaks[k] " only follows, and what breaks is " elsewhere
     else why = "nothing breaks in " breaks[k] (elsewhere == "" ? "" : ", only in " elsewhere)
     told("BAD", names[k], "-", "-", "-", why)
 }
