@@ -1,6 +1,7 @@
 -- What answers say, alone and two together. Assumes nothing.
 use mathlib.Core.Path.{_≡_, refl, sym, _∙_}
-use mathlib.Core.Bool.{Bool, true, false, false≢true, not, _&&_}
+use mathlib.Core.Bool.{Bool, true, false, false≢true, not, _&&_, _||_}
+use mathlib.Core.Logic.{_⊎_, inl, inr}
 use borrow.Author.Tests.{not-true, not-false}
 
 pub never : {P : Type 0} → false ≡ true → P
@@ -19,6 +20,10 @@ both-made h k = rw (h, k)
 
 pub both-alike : {a b p q : Bool} → a ≡ p → b ≡ q → (a && b) ≡ (p && q)
 both-alike e f = rw (e, f)
+
+pub either-true : (a b : Bool) → a || b ≡ true → (a ≡ true) ⊎ (b ≡ true)
+either-true true b e = inl refl
+either-true false b e = inr e
 
 -- two answers that are true of the same
 pub same-truth : (a b : Bool) → (a ≡ true → b ≡ true) → (b ≡ true → a ≡ true) → a ≡ b
