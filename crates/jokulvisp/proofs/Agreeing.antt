@@ -7,12 +7,13 @@ use native.Mathlib.Nat.{zero-add}
 use lib.Dec.{ltb}
 use lib.ListN.{length}
 use borrow.Author.Tests.{eq-eqb, lt-ltb}
+use Rattle.engine.specs.Run.{actionsOf}
 use Rattle.paint.proofs.Stacks.{stacked-same}
 use Rattle.paint.specs.Picture.{stacked, rowColours, rowTags}
 use Rattle.jokulvisp.specs.declared.check.JvAnswer.{JvAnswer}
 use Rattle.jokulvisp.specs.Agreement.{Lent, Agrees}
 use Rattle.jokulvisp.specs.Check.{answerOf, CheckAnswer}
-use Rattle.jokulvisp.specs.Paint.{isLent, leftBy, ran, PaintAnswer, PaintRowAnswer}
+use Rattle.jokulvisp.specs.Paint.{isLent, leftBy, PaintAnswer, PaintRowAnswer}
 use Rattle.jokulvisp.proofs.Painted.{left-new, number-of}
 
 pub lent-right : (width rows : ℕ) (picture tags : List ℕ) → Lent width rows picture tags → isLent width rows (length picture) (length tags) ≡ true
@@ -48,7 +49,7 @@ module _ (list memory : List ℕ) (width height limit : ℕ) (check : JvAnswer) 
   row-is :
       check .number ≡ 0 → (y : ℕ) (picture tags : List ℕ) (answer : JvAnswer) (picture′ tags′ : List ℕ) → y < height → Lent width 1 picture tags →
       PaintRowAnswer list memory width height y limit picture tags answer picture′ tags′ →
-      (picture′ ≡ rowColours memory (ran list memory limit .actions) width y) × (tags′ ≡ rowTags memory (ran list memory limit .actions) width y)
+      (picture′ ≡ rowColours memory (actionsOf list (length memory) limit) width y) × (tags′ ≡ rowTags memory (actionsOf list (length memory) limit) width y)
   unfolding PaintRowAnswer
   row-is z y picture tags answer picture′ tags′ m l x =
       (x .painted ∙ left-done _ (row-right y picture tags m l) z _ _, x .tagged ∙ left-done _ (row-right y picture tags m l) z _ _)
@@ -68,7 +69,7 @@ module _ (list memory : List ℕ) (width height limit : ℕ) (check : JvAnswer) 
         stacked-same _ tagRuns′ height (λ y m. rw (zero-add y) (sym (row y m .1))),
   )
     where
-      row : (y : ℕ) → y < height → (pictures′ y ≡ rowColours memory (ran list memory limit .actions) width y) × (tagRuns′ y ≡ rowTags memory (ran list memory limit .actions) width y)
+      row : (y : ℕ) → y < height → (pictures′ y ≡ rowColours memory (actionsOf list (length memory) limit) width y) × (tagRuns′ y ≡ rowTags memory (actionsOf list (length memory) limit) width y)
       row y m = row-is z y (pictures y) (tagRuns y) (answers y) (pictures′ y) (tagRuns′ y) m (ls y m) (xs y m)
 
   pub calls-agree : Agrees list memory width height limit check

@@ -9,9 +9,10 @@ use lib.ListN.{length}
 use borrow.Author.Tests.{leb-true}
 use Rattle.truth.proofs.Bools.{answered-no, answered-yes, both-alike, both-true}
 use Rattle.engine.specs.declared.run.Ending.{Ending}
-use Rattle.engine.specs.Run.{Ran, run, atStart}
+use Rattle.engine.specs.Run.{Ran, runOf, mostList, mostMemory}
+use Rattle.units.specs.Units.{tallest, widest}
 use Rattle.jokulvisp.specs.declared.check.JvAnswer.{JvAnswer}
-use Rattle.jokulvisp.specs.Check.{isFrame, isList, isMemory, isLimit, refusalOf, refused, told, answerOf, CheckAnswer}
+use Rattle.jokulvisp.specs.Check.{isFrame, isList, isMemory, isLimit, refusalOf, refused, unlessRefused, answerOf, CheckAnswer}
 
 pub check-once : (list : List ℕ) (memory width height limit : ℕ) (a b : JvAnswer) → CheckAnswer list memory width height limit a → CheckAnswer list memory width height limit b → a ≡ b
 unfolding CheckAnswer
@@ -19,18 +20,18 @@ check-once list memory width height limit a b p q = p ∙ sym q
 
 -- how a run ends, as C is told
 abbrev pub answered : Ending → JvAnswer
-answered x = record { number = x .number; list = 0; place = x .place; count = x .count }
+answered x = record { number = x .stop .number; list = 0; place = x .stop .place; count = x .count }
 
 -- a refusal carries its number and nothing else
-pub told-refused : (n : ℕ) (r : Ran) → (n ≡ 0 → ⊥) → told n r ≡ refused n
+pub told-refused : (n : ℕ) (r : Ran) → (n ≡ 0 → ⊥) → unlessRefused n r ≡ refused n
 told-refused zero r h = absurd (h refl)
 told-refused (suc n) r h = refl
 
-told-done : (n : ℕ) (r : Ran) → told n r .number ≡ 0 → n ≡ 0
+told-done : (n : ℕ) (r : Ran) → unlessRefused n r .number ≡ 0 → n ≡ 0
 told-done zero r e = refl
 told-done (suc n) r e = e
 
-told-drew : (n : ℕ) (r : Ran) → told n r .number ≡ 0 → r .number ≡ 0
+told-drew : (n : ℕ) (r : Ran) → unlessRefused n r .number ≡ 0 → r .stop .number ≡ 0
 told-drew zero r e = e
 told-drew (suc n) r e = absurd (omega (arith, e))
 
@@ -43,27 +44,27 @@ a-frame answer frame lent e h = answered-yes (both-alike e refl) h
 
 -- what is not refused is within its limits
 pub record Admitted (l m w h : ℕ) (lent : Bool) : Type 0 where
-  pub list : l ≤ 8192
-  pub memory : m ≤ 2 ^ 20
-  pub width : w ≤ 800
-  pub height : h ≤ 600
+  pub list : l ≤ mostList
+  pub memory : m ≤ mostMemory
+  pub width : w ≤ widest
+  pub height : h ≤ tallest
   pub runs : lent ≡ true
 
-pub list-within : (n : ℕ) → isList n ≡ true → n ≤ 8192
+pub list-within : (n : ℕ) → isList n ≡ true → n ≤ mostList
 unfolding isList
-list-within n e = leb-true n 8192 (both-true (leb 4 n) _ (both-true (leb 4 n && leb n 8192) _ e .0) .1)
+list-within n e = leb-true n mostList (both-true (leb 4 n) _ (both-true (leb 4 n && leb n mostList) _ e .0) .1)
 
-pub memory-within : (n : ℕ) → isMemory n ≡ true → n ≤ 2 ^ 20
+pub memory-within : (n : ℕ) → isMemory n ≡ true → n ≤ mostMemory
 unfolding isMemory
-memory-within n e = leb-true n 1048576 e
+memory-within n e = leb-true n mostMemory e
 
-pub width-within : (w h : ℕ) → isFrame w h ≡ true → w ≤ 800
+pub width-within : (w h : ℕ) → isFrame w h ≡ true → w ≤ widest
 unfolding isFrame
-width-within w h e = leb-true w 800 (both-true (leb 1 w) _ (both-true (leb 1 w && leb w 800) _ e .0) .1)
+width-within w h e = leb-true w widest (both-true (leb 1 w) _ (both-true (leb 1 w && leb w widest) _ e .0) .1)
 
-pub height-within : (w h : ℕ) → isFrame w h ≡ true → h ≤ 600
+pub height-within : (w h : ℕ) → isFrame w h ≡ true → h ≤ tallest
 unfolding isFrame
-height-within w h e = leb-true h 600 (both-true (leb 1 h) _ (both-true (leb 1 w && leb w 800) _ e .1) .1)
+height-within w h e = leb-true h tallest (both-true (leb 1 h) _ (both-true (leb 1 w && leb w widest) _ e .1) .1)
 
 -- the tests that it passed
 pub record Passed (l m w h k : ℕ) (lent : Bool) : Type 0 where
@@ -109,9 +110,9 @@ done list memory width height limit lent e = admitted (length list) memory width
 -- and the list drew
 pub drew :
     (list : List ℕ) (memory width height limit : ℕ) (lent : Bool) → answerOf list memory width height limit lent .number ≡ 0 →
-    Passed (length list) memory width height limit lent × (run list memory limit atStart .number ≡ 0)
+    Passed (length list) memory width height limit lent × (runOf list memory limit .stop .number ≡ 0)
 unfolding answerOf
 drew list memory width height limit lent e =
     let refusal = refusalOf (length list) memory width height limit lent in
-    let r = run list memory limit atStart in
+    let r = runOf list memory limit in
     (passed (length list) memory width height limit lent (told-done refusal r e), told-drew refusal r e)

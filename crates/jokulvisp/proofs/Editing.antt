@@ -8,16 +8,17 @@ use lib.Dec.{eqb, ltb}
 use lib.ListN.{length, getD, replicate, getD-replicate}
 use borrow.Author.Tests.{eq-eqb, ltb-true}
 use Rattle.truth.proofs.Bools.{both-true}
+use Rattle.engine.specs.Run.{actionsOf, runOf}
 use Rattle.paint.proofs.Rows.{colours-long, tags-long}
 use Rattle.paint.proofs.Stacks.{stacked-long, stacked-same}
-use Rattle.paint.specs.Picture.{mended, pixelOf, rowColours, rowTags, stacked}
-use Rattle.repaint.proofs.Settling.{colours-carried, mark-on, marked-none, marks-none, mended-itself, same-rows, tags-carried}
+use Rattle.paint.specs.Picture.{patched, pixelOf, rowColours, rowTags, stacked}
+use Rattle.repaint.proofs.Settling.{colours-carried, mark-on, marked-none, marks-none, patched-itself, same-rows, tags-carried}
 use Rattle.repaint.specs.Repaint.{marked}
 use Rattle.jokulvisp.specs.declared.check.JvAnswer.{JvAnswer}
 use Rattle.jokulvisp.specs.Agreement.{Lent}
 use Rattle.jokulvisp.specs.Check.{isFrame, isLimit, isList, isMemory}
 use Rattle.jokulvisp.specs.Edits.{HoldsOfEdits}
-use Rattle.jokulvisp.specs.Paint.{isLent, PaintAnswer, PaintRowAnswer, ran}
+use Rattle.jokulvisp.specs.Paint.{isLent, PaintAnswer, PaintRowAnswer}
 use Rattle.jokulvisp.specs.Repaint.{isLentFor, RepaintAnswer}
 use Rattle.jokulvisp.proofs.Agreeing.{lent-right}
 use Rattle.jokulvisp.proofs.Checking.{drew}
@@ -30,9 +31,9 @@ record Framed (list memory : List ℕ) (width height limit : ℕ) (picture tags 
   listLong : isList (length list) ≡ true
   memoryLong : isMemory (length memory) ≡ true
   limitRight : isLimit limit ≡ true
-  runs : ran list memory limit .number ≡ 0
-  colours : picture ≡ stacked (rowColours memory (ran list memory limit .actions) width) height
-  tagBytes : tags ≡ stacked (rowTags memory (ran list memory limit .actions) width) height
+  runs : runOf list (length memory) limit .stop .number ≡ 0
+  colours : picture ≡ stacked (rowColours memory (actionsOf list (length memory) limit) width) height
+  tagBytes : tags ≡ stacked (rowTags memory (actionsOf list (length memory) limit) width) height
 
 framed :
     (list memory : List ℕ) (width height limit : ℕ) (picture tags : List ℕ) (answer : JvAnswer) (picture′ tags′ : List ℕ) →
@@ -54,7 +55,7 @@ framed list memory width height limit picture tags answer picture′ tags′ x z
 
 frame-long : {list memory : List ℕ} {width height limit : ℕ} {picture tags : List ℕ} → Framed list memory width height limit picture tags → Lent width height picture tags
 frame-long {list} {memory} {width} {height} {limit} f =
-    let actions = ran list memory limit .actions in
+    let actions = actionsOf list (length memory) limit in
     record {
       colours =
           ap length (f .colours)
@@ -89,16 +90,16 @@ module _ {old new memory : List ℕ} {width height limit : ℕ} {picture tags ma
       in
       let z : answer .number ≡ 0 = number-of (x .answered ∙ draws-due old new memory width height limit _ draws (marked marks′ height)) in
       let left = x .done z in
-      let oldActions = ran old memory limit .actions in
-      let newActions = ran new memory limit .actions in (
+      let oldActions = actionsOf old (length memory) limit in
+      let newActions = actionsOf new (length memory) limit in (
         z,
         (
           left .colours
-              ∙ ap (mended marks′ (rowColours memory newActions width) (3 * width)) (o .colours)
+              ∙ ap (patched marks′ (rowColours memory newActions width) (3 * width)) (o .colours)
               ∙ colours-carried memory oldActions newActions width height marks′ (left .marks)
               ∙ sym (n .colours),
           left .tagBytes
-              ∙ ap (mended marks′ (rowTags memory newActions width) width) (o .tagBytes)
+              ∙ ap (patched marks′ (rowTags memory newActions width) width) (o .tagBytes)
               ∙ tags-carried memory oldActions newActions width height marks′ (left .marks)
               ∙ sym (n .tagBytes),
         ),
@@ -135,7 +136,7 @@ edits-hold = record {
       let none : marks′ ≡ replicate height 0 = marks-none (left .marks) in
       let zeros : (y : ℕ) → y < height → getD marks′ y 0 ≡ 0 = λ y l. ap (λ (m : List ℕ). getD m y 0) none ∙ getD-replicate height y 0 0 l in (
         repaint-count x z ∙ marked-none marks′ height zeros,
-        (none, (left .colours ∙ mended-itself (left .marks) _ (3 * width) picture (long .0), left .tagBytes ∙ mended-itself (left .marks) _ width tags (long .1))),
+        (none, (left .colours ∙ patched-itself (left .marks) _ (3 * width) picture (long .0), left .tagBytes ∙ patched-itself (left .marks) _ width tags (long .1))),
       );
   frameFree = λ old new memory width height limit picture tags marks answer picture′ tags′ marks′ l m x otherPicture otherTags otherMarks otherAnswer otherPicture′ otherTags′ otherMarks′ k n.
       answer-settled (lent-for width height picture tags marks l m ∙ sym (lent-for width height otherPicture otherTags otherMarks k n)) x;
@@ -146,6 +147,6 @@ edits-hold = record {
       let after = paints-new n zn in
       mark-on (x .done z .marks .each y inside)
       (λ e.
-      let same = same-rows memory (ran old memory limit .actions) (ran new memory limit .actions) width y e in
+      let same = same-rows memory (actionsOf old (length memory) limit) (actionsOf new (length memory) limit) width y e in
       differ (before .0 ∙ same .0 ∙ sym (after .0), before .1 ∙ same .1 ∙ sym (after .1)));
 }

@@ -2,17 +2,19 @@
 use mathlib.Core.Path.{_≡_, refl, sym, ap, subst, _∙_}
 use mathlib.Core.Bool.{Bool, true, false, _&&_}
 use mathlib.Core.List.{List}
-use Prim.Native.Nat.{ℕ, _+_, _*_, _/_, _%_, _≤_, _^_}
+use Prim.Native.Nat.{ℕ, _+_, _*_, _/_, _%_, _≤_}
 use native.Mathlib.Nat.{add-zero, le-trans, mul-left-comm}
 use native.Mathlib.Omega.{arith}
 use lib.Dec.{eqb, ltb}
 use lib.ListN.{length}
 use borrow.Author.Tests.{eq-eqb, ne-eqb, eqb-true, eqb-false, ltb-true}
 use Rattle.truth.proofs.Bools.{both-true}
+use Rattle.engine.specs.Run.{WithinLimits, actionsOf}
+use Rattle.units.specs.Units.{tallest, widest}
 use Rattle.paint.specs.Picture.{stacked, coloursFrom, tagsFrom, rowColours, rowTags}
 use Rattle.jokulvisp.specs.declared.check.JvAnswer.{JvAnswer}
 use Rattle.jokulvisp.specs.Check.{answerOf}
-use Rattle.jokulvisp.specs.Paint.{isLent, leftBy, ran, Paints, Lends, PaintAnswer, PaintRowAnswer, RowsAnswer}
+use Rattle.jokulvisp.specs.Paint.{isLent, leftBy, Paints, Lends, PaintAnswer, PaintRowAnswer, RowsAnswer}
 use Rattle.jokulvisp.proofs.Checking.{done}
 
 pub number-of : {a b : JvAnswer} → a ≡ b → a .number ≡ b .number
@@ -103,8 +105,8 @@ frame-lends answer width height picture tags h e = (omega arith, lent-lends widt
 pub may-paint :
     (lent : Bool) (list : List ℕ) (memory width height first count limit picture tags : ℕ) (answer : JvAnswer) →
     answer ≡ answerOf list memory width height limit lent → answer .number ≡ 0 → Lends lent width height first count picture tags →
-    ((length list ≤ 8192) × (memory ≤ 2 ^ 20)) ×
-    ((first + count ≤ 600) × ((width ≤ 800) × ((picture ≡ count * (3 * width)) × (tags ≡ count * width))))
+    WithinLimits list memory ×
+    ((first + count ≤ tallest) × ((width ≤ widest) × ((picture ≡ count * (3 * width)) × (tags ≡ count * width))))
 may-paint lent list memory width height first count limit picture tags answer e z l =
     let m = done list memory width height limit lent (number-of (sym e) ∙ z) in
     let r = l (m .runs) in
@@ -125,8 +127,8 @@ left-as-lent lent list memory width height first count limit picture tags answer
 pub rows-painted :
     (lent : Bool) (list memory : List ℕ) (width height first count limit : ℕ) (picture tags : List ℕ) (answer : JvAnswer) (p t : List ℕ) →
     answer ≡ answerOf list (length memory) width height limit lent → answer .number ≡ 0 →
-    (p ≡ coloursFrom memory (ran list memory limit .actions) width first count) ×
-    (t ≡ tagsFrom memory (ran list memory limit .actions) width first count) →
+    (p ≡ coloursFrom memory (actionsOf list (length memory) limit) width first count) ×
+    (t ≡ tagsFrom memory (actionsOf list (length memory) limit) width first count) →
     RowsAnswer lent list memory width height first count limit picture tags answer p t
 unfolding RowsAnswer leftBy
 rows-painted lent list memory width height first count limit picture tags answer p t e z h =
@@ -146,8 +148,8 @@ one-row answer list memory width height row limit picture tags a p t e x =
     (λ (y : ℕ).
     Paints
     (answerOf list (length memory) width height limit (ltb row height && isLent width 1 (length picture) (length tags)))
-    (rowColours memory (ran list memory limit .actions) width y)
-    (rowTags memory (ran list memory limit .actions) width y)
+    (rowColours memory (actionsOf list (length memory) limit) width y)
+    (rowTags memory (actionsOf list (length memory) limit) width y)
     picture
     tags
     a

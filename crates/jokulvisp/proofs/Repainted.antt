@@ -3,20 +3,21 @@ use mathlib.Core.Path.{_≡_, refl, sym, ap, _∙_}
 use mathlib.Core.Bool.{Bool, true, false, cond, _&&_}
 use mathlib.Core.List.{List}
 use mathlib.Core.Logic.{_⊎_, inl, inr, ⊎-elim}
-use Prim.Native.Nat.{ℕ, _*_, _^_, _≤_}
+use Prim.Native.Nat.{ℕ, _*_, _≤_}
 use native.Mathlib.Omega.{arith}
 use lib.Dec.{eqb}
 use lib.ListN.{length}
 use borrow.Author.Tests.{eq-eqb, eqb-false, eqb-true, ne-eqb}
 use Rattle.truth.proofs.Bools.{both-true}
-use Rattle.engine.specs.Run.{Ran, endingOf}
+use Rattle.engine.specs.Run.{Ran, WithinLimits, actionsOf, endingOf, mostList, runOf}
 use Rattle.engine.specs.declared.run.Ending.{Ending}
-use Rattle.paint.specs.Picture.{mended, rowColours, rowTags}
+use Rattle.paint.specs.Picture.{patched, rowColours, rowTags}
 use Rattle.repaint.proofs.Settling.{marks-settled}
 use Rattle.repaint.specs.Repaint.{Marks, marked}
+use Rattle.units.specs.Units.{tallest, widest}
 use Rattle.jokulvisp.specs.declared.check.JvAnswer.{JvAnswer}
 use Rattle.jokulvisp.specs.Check.{isFrame, isLimit, isList, isMemory}
-use Rattle.jokulvisp.specs.Paint.{isLent, ran}
+use Rattle.jokulvisp.specs.Paint.{isLent}
 use Rattle.jokulvisp.specs.Repaint.{isLentFor, refusedFor, RepaintAnswer, repaintDue, repainted, unlessFaulty}
 use Rattle.jokulvisp.proofs.Checking.{height-within, list-within, memory-within, width-within}
 use Rattle.jokulvisp.proofs.Painted.{Same, lent-lends, number-of}
@@ -41,8 +42,8 @@ module _ (old new memory : List ℕ) (width height limit : ℕ) (lent : Bool) wh
     pub newList : isList (length new) ≡ true
     pub memoryLong : isMemory (length memory) ≡ true
     pub limitRight : isLimit limit ≡ true
-    pub oldRun : ran old memory limit .number ≡ 0
-    pub newRun : ran new memory limit .number ≡ 0
+    pub oldRun : runOf old (length memory) limit .stop .number ≡ 0
+    pub newRun : runOf new (length memory) limit .stop .number ≡ 0
 
   draws-or-fails : Draws ⊎ Fails (repaintDue old new memory width height limit lent)
   unfolding repaintDue unlessFaulty
@@ -52,16 +53,16 @@ module _ (old new memory : List ℕ) (width height limit : ℕ) (lent : Bool) wh
       λ b. tested (isList (length new)) (refusedFor 2 2) _ (λ t z. omega arith)
       λ c. tested (isMemory (length memory)) (refusedFor 0 3) _ (λ t z. omega arith)
       λ d. tested (isLimit limit) (refusedFor 0 4) _ (λ t z. omega arith)
-      λ e. tested (eqb (ran old memory limit .number) 0) _ _ (λ t z. eqb-false (ran old memory limit .number) 0 t z)
-      λ f. tested (eqb (ran new memory limit .number) 0) _ repainted (λ t z. eqb-false (ran new memory limit .number) 0 t z)
+      λ e. tested (eqb (runOf old (length memory) limit .stop .number) 0) _ _ (λ t z. eqb-false (runOf old (length memory) limit .stop .number) 0 t z)
+      λ f. tested (eqb (runOf new (length memory) limit .stop .number) 0) _ repainted (λ t z. eqb-false (runOf new (length memory) limit .stop .number) 0 t z)
       λ g. inl (record {
         frame = a;
         oldList = b;
         newList = c;
         memoryLong = d;
         limitRight = e;
-        oldRun = eqb-true (ran old memory limit .number) 0 f;
-        newRun = eqb-true (ran new memory limit .number) 0 g;
+        oldRun = eqb-true (runOf old (length memory) limit .stop .number) 0 f;
+        newRun = eqb-true (runOf new (length memory) limit .stop .number) 0 g;
       })
 
   -- the number is 0 only then
@@ -78,19 +79,19 @@ module _ (old new memory : List ℕ) (width height limit : ℕ) (lent : Bool) wh
         d .newList,
         d .memoryLong,
         d .limitRight,
-        eq-eqb (ran old memory limit .number) 0 (d .oldRun),
-        eq-eqb (ran new memory limit .number) 0 (d .newRun),
+        eq-eqb (runOf old (length memory) limit .stop .number) 0 (d .oldRun),
+        eq-eqb (runOf new (length memory) limit .stop .number) 0 (d .newRun),
       )
 
 -- A RUN that is over, as its number tells
 module _ (list : ℕ) (r : Ran) {e : Ending} (further : JvAnswer) (over : e ≡ endingOf r) where
-  pub faulty : (e .number ≡ 0 → ⊥) → record { number = e .number; list = list; place = e .place; count = e .count } ≡ unlessFaulty list r further
+  pub faulty : (e .stop .number ≡ 0 → ⊥) → record { number = e .stop .number; list = list; place = e .stop .place; count = e .count } ≡ unlessFaulty list r further
   unfolding unlessFaulty
-  faulty z = rw (over, ne-eqb (r .number) 0 (λ n. z (ap (λ (x : Ending). x .number) over ∙ n)))
+  faulty z = rw (over, ne-eqb (r .stop .number) 0 (λ n. z (ap (λ (x : Ending). x .stop .number) over ∙ n)))
 
-  pub faultless : e .number ≡ 0 → further ≡ unlessFaulty list r further
+  pub faultless : e .stop .number ≡ 0 → further ≡ unlessFaulty list r further
   unfolding unlessFaulty
-  faultless z = rw (eq-eqb (r .number) 0 (sym (ap (λ (x : Ending). x .number) over) ∙ z))
+  faultless z = rw (eq-eqb (r .stop .number) 0 (sym (ap (λ (x : Ending). x .stop .number) over) ∙ z))
 
 -- Of what is lent, answer and marks depend on the lengths alone.
 pub answer-settled :
@@ -153,8 +154,8 @@ module _ (old new memory : List ℕ) (width height limit picture tags marks : �
   marks-long = eqb-true marks height (both-true (isLent width height picture tags) _ lends .1)
 
   pub may-repaint :
-      ((length old ≤ 8192) × ((length new ≤ 8192) × (length memory ≤ 2 ^ 20))) ×
-      ((marks ≤ 600) × ((width ≤ 800) × ((picture ≡ marks * (3 * width)) × (tags ≡ marks * width))))
+      ((length old ≤ mostList) × WithinLimits new (length memory)) ×
+      ((marks ≤ tallest) × ((width ≤ widest) × ((picture ≡ marks * (3 * width)) × (tags ≡ marks * width))))
   may-repaint =
       let frame = both-true (isFrame width height) _ (draws .frame) .0 in
       let runs = lent-lends width height picture tags (both-true (isLent width height picture tags) _ lends .0) in (
@@ -165,9 +166,9 @@ module _ (old new memory : List ℕ) (width height limit picture tags marks : �
 pub repaint-done :
     {old new memory : List ℕ} {width height limit : ℕ} {picture tags marks : List ℕ} {told : JvAnswer} {rows : ℕ} {picture′ tags′ marks′ : List ℕ} →
     told ≡ repaintDue old new memory width height limit (isLentFor width height (length picture) (length tags) (length marks)) 0 → told .number ≡ 0 →
-    Marks (ran old memory limit .actions) (ran new memory limit .actions) width (length marks) marks′ →
-    picture′ ≡ mended marks′ (rowColours memory (ran new memory limit .actions) width) (3 * width) picture →
-    tags′ ≡ mended marks′ (rowTags memory (ran new memory limit .actions) width) width tags → rows ≡ marked marks′ (length marks) →
+    Marks (actionsOf old (length memory) limit) (actionsOf new (length memory) limit) width (length marks) marks′ →
+    picture′ ≡ patched marks′ (rowColours memory (actionsOf new (length memory) limit) width) (3 * width) picture →
+    tags′ ≡ patched marks′ (rowTags memory (actionsOf new (length memory) limit) width) width tags → rows ≡ marked marks′ (length marks) →
     RepaintAnswer old new memory width height limit picture tags marks (repainted rows) picture′ tags′ marks′
 repaint-done {old} {new} {memory} {width} {height} {limit} {picture} {tags} {marks} {marks′ = marks′} e z m p t c =
     let d = draws old new memory width height limit (length picture) (length tags) (length marks) e z in
@@ -199,8 +200,8 @@ repaint-once old new memory width height limit picture tags marks a b p q t u m 
         let mn = settled .1 z in (
           record {
             answer = settled .0;
-            colours = r .colours ∙ ap (λ (k : List ℕ). mended k (rowColours memory (ran new memory limit .actions) width) (3 * width) picture) mn ∙ sym (s .colours);
-            tagBytes = r .tagBytes ∙ ap (λ (k : List ℕ). mended k (rowTags memory (ran new memory limit .actions) width) width tags) mn ∙ sym (s .tagBytes);
+            colours = r .colours ∙ ap (λ (k : List ℕ). patched k (rowColours memory (actionsOf new (length memory) limit) width) (3 * width) picture) mn ∙ sym (s .colours);
+            tagBytes = r .tagBytes ∙ ap (λ (k : List ℕ). patched k (rowTags memory (actionsOf new (length memory) limit) width) width tags) mn ∙ sym (s .tagBytes);
           },
           mn,
         )

@@ -6,25 +6,26 @@ use mathlib.Core.List.{List}
 use Prim.Native.Nat.{ℕ, zero, suc, _%_}
 use lib.Dec.{eqb, leb}
 use lib.ListN.{length}
-use Rattle.engine.specs.Run.{Ran, run, atStart}
+use Rattle.engine.specs.Run.{Ran, runOf, mostList, mostMemory}
+use Rattle.units.specs.Units.{tallest, widest}
 use Rattle.jokulvisp.specs.declared.check.JvAnswer.{JvAnswer}
 
 -- THE LIMITS, document 01, 'The first build': 'Frame 1..800 wide, 1..600 high', 'List: 4..8,192 bytes, a multiple of 4', 'RAM_G: 0..1,048,576
 -- bytes', 'Step limit 1..65,536'
-abbrev pub within : ℕ → ℕ → ℕ → Bool
-within low high n = leb low n && leb n high
+abbrev pub fromTo : ℕ → ℕ → ℕ → Bool
+fromTo low high n = leb low n && leb n high
 
 unfoldable pub isFrame : ℕ → ℕ → Bool
-isFrame width height = within 1 800 width && within 1 600 height
+isFrame width height = fromTo 1 widest width && fromTo 1 tallest height
 
 unfoldable pub isList : ℕ → Bool
-isList n = within 4 8192 n && eqb (n % 4) 0
+isList n = fromTo 4 mostList n && eqb (n % 4) 0
 
 unfoldable pub isMemory : ℕ → Bool
-isMemory n = leb n 1048576
+isMemory n = leb n mostMemory
 
 unfoldable pub isLimit : ℕ → Bool
-isLimit n = within 1 65536 n
+isLimit n = fromTo 1 65536 n
 
 -- the number of the first limit that is broken, and 0 where none is. Number 1 has a second half: `lent` says whether the rows asked for are
 -- the frame's, and the runs lent for them of their length
@@ -36,16 +37,17 @@ refusalOf list memory width height limit lent =
 abbrev pub refused : ℕ → JvAnswer
 refused number = record { number = number; list = 0; place = 0; count = 0 }
 
-abbrev pub ended : Ran → JvAnswer
-ended r = record { number = r .number; list = 0; place = r .place; count = r .count }
+abbrev pub answerOfRun : Ran → JvAnswer
+answerOfRun r = record { number = r .stop .number; list = 0; place = r .stop .place; count = r .count }
 
-abbrev pub told : ℕ → Ran → JvAnswer
-told zero r = ended r
-told (suc n) r = refused (suc n)
+-- a limit that is broken, by its number; with 0, none is, and the list is run
+abbrev pub unlessRefused : ℕ → Ran → JvAnswer
+unlessRefused zero r = answerOfRun r
+unlessRefused (suc n) r = refused (suc n)
 
 unfoldable pub answerOf : List ℕ → ℕ → ℕ → ℕ → ℕ → Bool → JvAnswer
 answerOf list memory width height limit lent =
-    told (refusalOf (length list) memory width height limit lent) (run list memory limit atStart)
+    unlessRefused (refusalOf (length list) memory width height limit lent) (runOf list memory limit)
 
 -- jv_check, for every list, every length of RAM_G, every size and every limit. It is lent nothing to paint on
 unfoldable pub CheckAnswer : List ℕ → ℕ → ℕ → ℕ → ℕ → JvAnswer → Type 0

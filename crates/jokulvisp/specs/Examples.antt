@@ -5,7 +5,7 @@ use mathlib.Core.List.{List, [], _∷_, _++_}
 use Prim.Native.Nat.{ℕ, zero, suc}
 use lib.IntN.{ℤ, pos, negℤ}
 use Rattle.action.specs.declared.numbers.Factor.the-variants.{One}
-use Rattle.engine.specs.Run.{State, nextOf, Ran, run, atStart}
+use Rattle.engine.specs.Run.{State, nextOf, runOf, atStart}
 use Rattle.pixel.specs.Blend.{product, weight, blended}
 use Rattle.runs.specs.Runs.{bytesOf}
 use Rattle.units.specs.Units.{meantPixels, floor16, sixteenthAt, floored}
@@ -21,7 +21,7 @@ listOf (w ∷ ws) = bytesOf w ++ listOf ws
 -- these words run from the start, with no RAM_G and so many words allowed: they draw nothing and end with this number, place and count
 abbrev pub Ends : List ℕ → ℕ → ℕ → ℕ → ℕ → Type 0
 Ends words limit number place count =
-    run (listOf words) 0 limit atStart ≡ record { actions = []; number = number; place = place; count = count }
+    runOf (listOf words) 0 limit ≡ record { actions = []; stop = record { number = number; place = place }; count = count }
 
 -- the state after so many of these words
 abbrev pub afterWords : List ℕ → ℕ → State

@@ -7,7 +7,7 @@ use mathlib.Core.List.{List}
 use Prim.Native.Nat.{ℕ, _+_, _*_, _≤_}
 use lib.Dec.{eqb, ltb}
 use lib.ListN.{length}
-use Rattle.engine.specs.Run.{Ran, run, atStart}
+use Rattle.engine.specs.Run.{actionsOf}
 use Rattle.paint.specs.Picture.{coloursFrom, tagsFrom, rowColours, rowTags}
 use Rattle.jokulvisp.specs.declared.check.JvAnswer.{JvAnswer}
 use Rattle.jokulvisp.specs.Check.{answerOf}
@@ -15,10 +15,6 @@ use Rattle.jokulvisp.specs.Check.{answerOf}
 -- runs of these lengths are those of so many rows
 unfoldable pub isLent : ℕ → ℕ → ℕ → ℕ → Bool
 isLent width rows picture tags = eqb picture (rows * (3 * width)) && eqb tags (rows * width)
-
--- the run of a list over a RAM_G; its actions are what is drawn
-abbrev pub ran : List ℕ → List ℕ → ℕ → Ran
-ran list memory limit = run list (length memory) limit atStart
 
 -- a run of bytes after a call: new with number 0, with all others as lent
 unfoldable pub leftBy : JvAnswer → List ℕ → List ℕ → List ℕ
@@ -35,8 +31,8 @@ unfoldable pub PaintRowAnswer : List ℕ → List ℕ → ℕ → ℕ → ℕ �
 PaintRowAnswer list memory width height row limit picture tags =
     Paints
     (answerOf list (length memory) width height limit (ltb row height && isLent width 1 (length picture) (length tags)))
-    (rowColours memory (ran list memory limit .actions) width row)
-    (rowTags memory (ran list memory limit .actions) width row)
+    (rowColours memory (actionsOf list (length memory) limit) width row)
+    (rowTags memory (actionsOf list (length memory) limit) width row)
     picture
     tags
 
@@ -45,8 +41,8 @@ unfoldable pub PaintAnswer : List ℕ → List ℕ → ℕ → ℕ → ℕ → L
 PaintAnswer list memory width height limit picture tags =
     Paints
     (answerOf list (length memory) width height limit (isLent width height (length picture) (length tags)))
-    (coloursFrom memory (ran list memory limit .actions) width 0 height)
-    (tagsFrom memory (ran list memory limit .actions) width 0 height)
+    (coloursFrom memory (actionsOf list (length memory) limit) width 0 height)
+    (tagsFrom memory (actionsOf list (length memory) limit) width 0 height)
     picture
     tags
 
@@ -59,7 +55,7 @@ unfoldable pub RowsAnswer : Bool → List ℕ → List ℕ → ℕ → ℕ → �
 RowsAnswer lent list memory width height first count limit picture tags =
     Paints
     (answerOf list (length memory) width height limit lent)
-    (coloursFrom memory (ran list memory limit .actions) width first count)
-    (tagsFrom memory (ran list memory limit .actions) width first count)
+    (coloursFrom memory (actionsOf list (length memory) limit) width first count)
+    (tagsFrom memory (actionsOf list (length memory) limit) width first count)
     picture
     tags

@@ -8,12 +8,13 @@ use mathlib.Core.List.{List}
 use Prim.Native.Nat.{ℕ, _*_}
 use lib.Dec.{eqb}
 use lib.ListN.{length}
-use Rattle.engine.specs.Run.{Ran}
-use Rattle.paint.specs.Picture.{rowColours, rowTags, mended}
+use Rattle.engine.specs.Run.{Ran, actionsOf, runOf}
+use Rattle.paint.specs.Picture.{rowColours, rowTags, patched}
+use Rattle.truth.specs.Must.{must}
 use Rattle.repaint.specs.Repaint.{Marks, marked}
 use Rattle.jokulvisp.specs.declared.check.JvAnswer.{JvAnswer}
 use Rattle.jokulvisp.specs.Check.{isFrame, isList, isMemory, isLimit}
-use Rattle.jokulvisp.specs.Paint.{isLent, ran}
+use Rattle.jokulvisp.specs.Paint.{isLent}
 
 -- THE ANSWER. A limit that is broken, with the list that it is about
 abbrev pub refusedFor : ℕ → ℕ → JvAnswer
@@ -22,14 +23,10 @@ refusedFor list number = record { number = number; list = list; place = 0; count
 -- a list that does not draw ends the call; otherwise it goes on
 unfoldable pub unlessFaulty : ℕ → Ran → JvAnswer → JvAnswer
 unlessFaulty list r further =
-    cond (eqb (r .number) 0) further (record { number = r .number; list = list; place = r .place; count = r .count })
+    cond (eqb (r .stop .number) 0) further (record { number = r .stop .number; list = list; place = r .stop .place; count = r .count })
 
 abbrev pub repainted : ℕ → JvAnswer
 repainted rows = record { number = 0; list = 0; place = 0; count = rows }
-
--- a limit that is kept, or else this answer
-abbrev pub must : Bool → JvAnswer → JvAnswer → JvAnswer
-must kept refusal further = cond kept further refusal
 
 -- runs of these lengths are a frame's picture and tags, and a mark for each row
 abbrev pub isLentFor : ℕ → ℕ → ℕ → ℕ → ℕ → Bool
@@ -43,13 +40,13 @@ repaintDue old new memory width height limit lent rows =
     (must (isList (length new)) (refusedFor 2 2)
     (must (isMemory (length memory)) (refusedFor 0 3)
     (must (isLimit limit) (refusedFor 0 4)
-    (unlessFaulty 1 (ran old memory limit) (unlessFaulty 2 (ran new memory limit) (repainted rows)))))))
+    (unlessFaulty 1 (runOf old (length memory) limit) (unlessFaulty 2 (runOf new (length memory) limit) (repainted rows)))))))
 
 -- WHAT IS LEFT OF THE RUNS, with number 0: a mark for each row, 'Marked rows become the new list's rows, every other row keeps its lent bytes'
 pub record Repainted (old new memory : List ℕ) (width height limit : ℕ) (picture tags picture′ tags′ marks′ : List ℕ) : Type 0 where
-  pub marks : Marks (ran old memory limit .actions) (ran new memory limit .actions) width height marks′
-  pub colours : picture′ ≡ mended marks′ (rowColours memory (ran new memory limit .actions) width) (3 * width) picture
-  pub tagBytes : tags′ ≡ mended marks′ (rowTags memory (ran new memory limit .actions) width) width tags
+  pub marks : Marks (actionsOf old (length memory) limit) (actionsOf new (length memory) limit) width height marks′
+  pub colours : picture′ ≡ patched marks′ (rowColours memory (actionsOf new (length memory) limit) width) (3 * width) picture
+  pub tagBytes : tags′ ≡ patched marks′ (rowTags memory (actionsOf new (length memory) limit) width) width tags
 
 -- with any other number
 pub record AsLent (picture tags marks picture′ tags′ marks′ : List ℕ) : Type 0 where

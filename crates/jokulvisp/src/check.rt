@@ -2,6 +2,15 @@
 ghost use mathlib.Core.Path.{_≡_};
 ghost use lib.ListN.{length};
 ghost use Rattle.jokulvisp.specs.Check.{isFrame, isList, isMemory, isLimit, refusalOf, answerOf, CheckAnswer};
+use units::TALLEST;
+use units::WIDEST;
+
+// Document 01, 'The first build'.
+const LONGEST_LIST: usize = 8192;
+
+const LARGEST_MEMORY: usize = 1048576;
+
+const MOST_STEPS: u32 = 65536;
 
 #[repr(C)]
 pub struct JvAnswer {
@@ -14,25 +23,25 @@ pub struct JvAnswer {
 pub fn is_frame(width: u32, height: u32) -> bool
     ensures { λ r. ⌜ r ≡ isFrame width height ⌝ }
 {
-    (1 <= width) & (width <= 800) & ((1 <= height) & (height <= 600))
+    (1 <= width) & (width <= WIDEST) & ((1 <= height) & (height <= TALLEST))
 }
 
 pub fn is_list(length: usize) -> bool
     ensures { λ r. ⌜ r ≡ isList length ⌝ }
 {
-    (4 <= length) & (length <= 8192) & (length % 4 == 0)
+    (4 <= length) & (length <= LONGEST_LIST) & (length % 4 == 0)
 }
 
 pub fn is_memory(length: usize) -> bool
     ensures { λ r. ⌜ r ≡ isMemory length ⌝ }
 {
-    length <= 1048576
+    length <= LARGEST_MEMORY
 }
 
 pub fn is_limit(limit: u32) -> bool
     ensures { λ r. ⌜ r ≡ isLimit limit ⌝ }
 {
-    (1 <= limit) & (limit <= 65536)
+    (1 <= limit) & (limit <= MOST_STEPS)
 }
 
 // Number 1, 2, 3 or 4 of document 01's table, or 0 where all is within its limits. `lent`: the rows that are to be painted
@@ -76,9 +85,9 @@ pub fn answer(
     }
     let ending = engine::finish(list, memory.len() as u32, limit);
     JvAnswer {
-        number: ending.number,
+        number: ending.stop.number,
         list: 0,
-        place: ending.place,
+        place: ending.stop.place,
         count: ending.count,
     }
 }

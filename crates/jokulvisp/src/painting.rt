@@ -27,7 +27,8 @@ fn answer_rows(
     tags: &mut [u8],
 ) -> JvAnswer
     requires { ⌜ Lends lent width height first count (length (now picture)) (length (now tags)) ⌝ }
-    ensures { λ r. ⌜ RowsAnswer lent (now (list .entry)) (now (memory .entry)) width height first count limit (now (picture .entry)) (now (tags .entry)) r (now (picture .exit)) (now (tags .exit)) ⌝ }
+    ensures { λ r. ⌜ RowsAnswer lent (now (list .entry)) (now (memory .entry)) width height first count limit
+        (now (picture .entry)) (now (tags .entry)) r (now (picture .exit)) (now (tags .exit)) ⌝ }
 {
     let told = answer(list, memory, width, height, limit, lent);
     if told.number != 0 {
@@ -48,7 +49,8 @@ pub extern "C" fn jv_paint_row(
     picture: &mut [u8],
     tags: &mut [u8],
 ) -> JvAnswer
-    ensures { λ r. ⌜ PaintRowAnswer (now (list .entry)) (now (memory .entry)) width height row limit (now (picture .entry)) (now (tags .entry)) r (now (picture .exit)) (now (tags .exit)) ⌝ }
+    ensures { λ r. ⌜ PaintRowAnswer (now (list .entry)) (now (memory .entry)) width height row limit
+        (now (picture .entry)) (now (tags .entry)) r (now (picture .exit)) (now (tags .exit)) ⌝ }
 {
     let lent = (row < height) & is_lent(width, 1, picture.len(), tags.len());
     answer_rows(
@@ -75,7 +77,8 @@ pub extern "C" fn jv_paint(
     picture: &mut [u8],
     tags: &mut [u8],
 ) -> JvAnswer
-    ensures { λ r. ⌜ PaintAnswer (now (list .entry)) (now (memory .entry)) width height limit (now (picture .entry)) (now (tags .entry)) r (now (picture .exit)) (now (tags .exit)) ⌝ }
+    ensures { λ r. ⌜ PaintAnswer (now (list .entry)) (now (memory .entry)) width height limit
+        (now (picture .entry)) (now (tags .entry)) r (now (picture .exit)) (now (tags .exit)) ⌝ }
 {
     let lent = is_lent(width, height, picture.len(), tags.len());
     answer_rows(

@@ -1,8 +1,8 @@
 // jv_repaint: the rows that differ between two lists.
 ghost use mathlib.Core.Path.{_≡_};
-ghost use Prim.Native.Nat.{_≤_, _^_};
+ghost use Prim.Native.Nat.{_≤_};
 ghost use lib.ListN.{length};
-ghost use Rattle.engine.specs.Run.{run, atStart};
+ghost use Rattle.engine.specs.Run.{WithinLimits, mostList, runOf};
 ghost use Rattle.jokulvisp.specs.Repaint.{refusedFor, repainted, repaintDue, unlessFaulty, RepaintAnswer};
 use crate::check;
 use crate::check::JvAnswer;
@@ -21,24 +21,25 @@ fn refuse(list: u32, number: u32) -> JvAnswer
 
 // A list that does not draw, named and told, the old one first. With number 0 no row is counted yet.
 fn answer_runs(old: &[u8], new: &[u8], memory: u32, limit: u32) -> JvAnswer
-    requires { ⌜ (length (now old) ≤ 8192) × ((length (now new) ≤ 8192) × (memory ≤ 2 ^ 20)) ⌝ }
-    ensures { λ r. ⌜ r ≡ unlessFaulty 1 (run (now (old .entry)) memory limit atStart) (unlessFaulty 2 (run (now (new .entry)) memory limit atStart) (repainted 0)) ⌝ }
+    requires { ⌜ (length (now old) ≤ mostList) × WithinLimits (now new) memory ⌝ }
+    ensures { λ r. ⌜ r ≡ unlessFaulty 1 (runOf (now (old .entry)) memory limit)
+        (unlessFaulty 2 (runOf (now (new .entry)) memory limit) (repainted 0)) ⌝ }
 {
     let former = engine::finish(old, memory, limit);
-    if former.number != 0 {
+    if former.stop.number != 0 {
         return JvAnswer {
-            number: former.number,
+            number: former.stop.number,
             list: 1,
-            place: former.place,
+            place: former.stop.place,
             count: former.count,
         };
     }
     let latter = engine::finish(new, memory, limit);
-    if latter.number != 0 {
+    if latter.stop.number != 0 {
         return JvAnswer {
-            number: latter.number,
+            number: latter.stop.number,
             list: 2,
-            place: latter.place,
+            place: latter.stop.place,
             count: latter.count,
         };
     }
@@ -86,7 +87,9 @@ pub extern "C" fn jv_repaint(
     tags: &mut [u8],
     marks: &mut [u8],
 ) -> JvAnswer
-    ensures { λ r. ⌜ RepaintAnswer (now (old .entry)) (now (new .entry)) (now (memory .entry)) width height limit (now (picture .entry)) (now (tags .entry)) (now (marks .entry)) r (now (picture .exit)) (now (tags .exit)) (now (marks .exit)) ⌝ }
+    ensures { λ r. ⌜ RepaintAnswer (now (old .entry)) (now (new .entry)) (now (memory .entry)) width height limit
+        (now (picture .entry)) (now (tags .entry)) (now (marks .entry))
+        r (now (picture .exit)) (now (tags .exit)) (now (marks .exit)) ⌝ }
 {
     let lent = painting::is_lent(width, height, picture.len(), tags.len())
         & (marks.len() == height as usize);

@@ -43,7 +43,9 @@ pub extern "C" fn jv_ring_run(
     offset: u32,
     fault: u32,
 ) -> JvRing
-    ensures { λ r. ⌜ RingRunAnswer (now (ring .entry)) (now (list .entry)) (now (shown .entry)) (now (memory .entry)) (record { read = read; write = write; offset = offset; fault = fault }) r (now (list .exit)) (now (shown .exit)) (now (memory .exit)) ⌝ }
+    ensures { λ r. ⌜ RingRunAnswer (now (ring .entry)) (now (list .entry)) (now (shown .entry)) (now (memory .entry))
+        (record { read = read; write = write; offset = offset; fault = fault }) r
+        (now (list .exit)) (now (shown .exit)) (now (memory .exit)) ⌝ }
 {
     let marks = Marks {
         read: read,
@@ -63,7 +65,9 @@ pub extern "C" fn jv_ring_write(
     offset: u32,
     fault: u32,
 ) -> JvRing
-    ensures { λ r. ⌜ RingWriteAnswer (now (ring .entry)) (now (words .entry)) (record { read = read; write = write; offset = offset; fault = fault }) r (now (ring .exit)) ⌝ }
+    ensures { λ r. ⌜ RingWriteAnswer (now (ring .entry)) (now (words .entry))
+        (record { read = read; write = write; offset = offset; fault = fault }) r
+        (now (ring .exit)) ⌝ }
 {
     let marks = Marks {
         read: read,

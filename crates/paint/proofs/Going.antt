@@ -9,6 +9,7 @@ use Rattle.engine.specs.declared.kept.Engine.{Engine}
 use Rattle.engine.specs.declared.run.Advanced.{Advanced}
 use Rattle.engine.specs.declared.run.Find.{Find}
 use Rattle.engine.specs.declared.run.Find.the-variants as f
+use Rattle.engine.specs.declared.run.Stop.{Stop}
 use Rattle.paint.specs.Actions.{AllBands, Keeps, Rooms, keptUpTo}
 use Rattle.paint.proofs.Folds.{keeps-list}
 
@@ -28,9 +29,9 @@ module _ {list : List ℕ} {memory left : ℕ} {engine : Engine} {handles after 
   unfolding heard then
   next-action action e = ap (λ (r : Ran). r .actions) (went .whole) ∙ rw e
 
-  pub no-action : (number place : ℕ) → a .find ≡ f.Over number place → actionsFrom list memory left engine handles ≡ []
+  pub no-action : (stop : Stop) → a .find ≡ f.Over stop → actionsFrom list memory left engine handles ≡ []
   unfolding heard then
-  no-action number place e = ap (λ (r : Ran). r .actions) (went .whole) ∙ rw e
+  no-action stop e = ap (λ (r : Ran). r .actions) (went .whole) ∙ rw e
 
   pub fewer : (action : Action) → a .find ≡ f.Drew action → a .left < left
   unfolding Spent

@@ -1,7 +1,7 @@
 mod Banding
 mod Folds
 mod Going
-pub mod Mending
+pub mod Patching
 mod Points
 pub mod Rows
 pub mod Stacks

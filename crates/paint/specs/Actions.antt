@@ -6,9 +6,9 @@ use mathlib.Core.Path.{_≡_}
 use Prim.Native.Nat.{ℕ, zero, suc, _+_, _*_, _<_, _≤_}
 use lib.ListN.{length, getD}
 use Rattle.action.specs.declared.Action.{Action}
-use Rattle.engine.specs.Run.{run, atStart}
+use Rattle.engine.specs.Run.{actionsOf}
 use Rattle.shape.specs.Cover.{reaches}
-use Rattle.store.specs.Store.{keptAt}
+use Rattle.store.specs.Store.{keptAt, numbersEach, placesEach}
 use Rattle.units.specs.Units.{pixelAt}
 use Rattle.paint.specs.declared.kept.Gathered.{Gathered}
 use Rattle.paint.specs.Picture.{outlineOf}
@@ -36,7 +36,7 @@ AllBands numbers places bands count = (k : ℕ) → k < count → BandAt numbers
 
 -- the room for them
 abbrev pub Rooms : List ℕ → List ℕ → List ℕ → Type 0
-Rooms numbers places bands = (length numbers ≡ 25 * most) × ((length places ≡ 8 * most) × (length bands ≡ 2 * most))
+Rooms numbers places bands = (length numbers ≡ numbersEach * most) × ((length places ≡ placesEach * most) × (length bands ≡ 2 * most))
 
 -- an action is kept as the k-th with its band, and those before it stay
 pub record Keeps (action : Action) (k : ℕ) (numbers places bands numbers′ places′ bands′ : List ℕ) : Type 0 where
@@ -47,7 +47,7 @@ pub record Keeps (action : Action) (k : ℕ) (numbers places bands numbers′ pl
 
 -- where there was room for all actions of the list, those that are kept are they
 pub record Gathers (list : List ℕ) (memory limit : ℕ) (g : Gathered) (numbers places bands : List ℕ) : Type 0 where
-  pub whole : g .all ≡ true → run list memory limit atStart .actions ≡ keptUpTo numbers places (g .count)
+  pub whole : g .all ≡ true → actionsOf list memory limit ≡ keptUpTo numbers places (g .count)
   pub banded : AllBands numbers places bands (g .count)
   pub room : g .count ≤ most
   pub rooms : Rooms numbers places bands

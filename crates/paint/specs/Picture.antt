@@ -95,5 +95,5 @@ abbrev pub isMarked : List ℕ → ℕ → Bool
 isMarked marks y = eqb (getD marks y 0) 1
 
 -- A FRAME OF WHICH SOME ROWS ARE PAINTED: the marked rows are these, every other row keeps its lent bytes. A mark for each row
-unfoldable pub mended : List ℕ → (ℕ → List ℕ) → ℕ → List ℕ → List ℕ
-mended marks row wide lent = stacked (λ y. cond (isMarked marks y) (row y) (rowIn lent wide y)) (length marks)
+unfoldable pub patched : List ℕ → (ℕ → List ℕ) → ℕ → List ℕ → List ℕ
+patched marks row wide lent = stacked (λ y. cond (isMarked marks y) (row y) (rowIn lent wide y)) (length marks)

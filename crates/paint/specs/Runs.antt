@@ -20,10 +20,10 @@ use Rattle.pixel.specs.declared.plain.Plain.{Plain}
 use Rattle.shape.specs.OneRow.{holdsIn}
 use Rattle.shape.specs.declared.Chord.{Chord}
 use Rattle.texel.specs.Texel.{texelAt}
-use Rattle.units.specs.Units.{pixelAt}
+use Rattle.units.specs.Units.{pixelAt, widest}
 use Rattle.units.specs.declared.Pixels.{Pixels}
 use Rattle.paint.specs.Picture.{changed, drawnAt, drawnBy}
-use Rattle.paint.specs.declared.row.Brush.{Brush}
+use Rattle.paint.specs.declared.row.Coat.{Coat}
 use Rattle.paint.specs.declared.row.Texture.the-variants as t
 use Rattle.paint.specs.declared.row.Texture.{Texture}
 
@@ -42,7 +42,12 @@ pixelIn picture tags alpha stencil x =
 -- the runs of a row of this width; 'Work rows hold alpha and stencil for 800 pixels'
 abbrev pub Lent : ℕ → List ℕ → List ℕ → List ℕ → List ℕ → Type 0
 Lent width picture tags alpha stencil =
-    (length picture ≡ 3 * width) × ((length tags ≡ width) × ((length alpha ≡ 800) × ((length stencil ≡ 800) × (width ≤ 800))))
+    (length picture ≡ 3 * width) × ((length tags ≡ width) × ((length alpha ≡ widest) × ((length stencil ≡ widest) × (width ≤ widest))))
+
+-- the runs of so many rows of this width, which is one that a frame may have
+abbrev pub HoldRows : ℕ → ℕ → List ℕ → List ℕ → Type 0
+HoldRows width count picture tags =
+    (width ≤ widest) × ((length picture ≡ count * (3 * width)) × (length tags ≡ count * width))
 
 -- pixel x, and no other, is as the step makes it
 pub record Touched (x : ℕ) (step : Pixel → Pixel) (old now : ℕ → Pixel) : Type 0 where
@@ -62,16 +67,16 @@ held chord step x before = cond (holdsIn chord (pixelAt x)) (step x before) befo
 abbrev pub change : List ℕ → Masks → Drawing → Pixels → ℕ → Pixel → Pixel
 change memory masks drawing q x before = changed memory masks drawing (pixelAt x) q before
 
--- the texel of column p and row q, and what a brush makes of a pixel of row q with it
+-- the texel of column p and row q, and what a coat makes of a pixel of row q with it
 unfoldable pub texelIn : Texture → List ℕ → Pixels → Pixels → Colour
 texelIn t.White memory p q = white
 texelIn (t.Of bitmap) memory p q = texelAt bitmap (p .0 - bitmap .area .left .0) (q .0 - bitmap .area .top .0) memory
 
-abbrev pub inked : List ℕ → Brush → Pixels → ℕ → Pixel → Pixel
-inked memory brush q x before = painted (brush .ink) (brush .masks) (texelIn (brush .texture) memory (pixelAt x) q) before
+abbrev pub inked : List ℕ → Coat → Pixels → ℕ → Pixel → Pixel
+inked memory coat q x before = painted (coat .ink) (coat .masks) (texelIn (coat .texture) memory (pixelAt x) q) before
 
-abbrev pub brushOf : Texture → Ink → Masks → Brush
-brushOf texture ink masks = record { texture = texture; ink = ink; masks = masks }
+abbrev pub coatOf : Texture → Ink → Masks → Coat
+coatOf texture ink masks = record { texture = texture; ink = ink; masks = masks }
 
 -- a drawing that does the same to every pixel that it covers
 abbrev pub PlainDrawing : Masks → Drawing → Plain → Type 0
@@ -80,7 +85,7 @@ PlainDrawing masks drawing plain = (memory : List ℕ) (p q : Pixels) → PlainB
 -- the same over a chord, of which a wiped one holds every column of a frame
 pub record PlainOver (chord : Chord) (masks : Masks) (drawing : Drawing) (plain : Plain) : Type 0 where
   pub plainly : PlainDrawing masks drawing plain
-  pub flat : (with : Pixel) → plain ≡ p.Wipe with → (x : ℕ) → x < 800 → holdsIn chord (pixelAt x) ≡ true
+  pub flat : (with : Pixel) → plain ≡ p.Wipe with → (x : ℕ) → x < widest → holdsIn chord (pixelAt x) ≡ true
 
 -- row q after one action more, and after a list of them
 abbrev pub Drawn : List ℕ → Action → ℕ → Pixels → (ℕ → Pixel) → (ℕ → Pixel) → Type 0

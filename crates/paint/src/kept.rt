@@ -1,11 +1,12 @@
 // The drawing actions of a list, kept as numbers: a list is run once, and a row reads the actions that can reach it.
 ghost use Prim.Native.Nat.{_<_, _≤_, _+_, _*_, _^_};
 ghost use lib.ListN.{length};
-ghost use Rattle.paint.specs.Actions.{Rooms, Keeps, Gathers};
-use crate::reach;
+ghost use Rattle.engine.specs.Run.{WithinLimits};
+ghost use Rattle.paint.specs.Actions.{Rooms, Keeps, Gathers, most};
 use action::Action;
 use engine::Engine;
 use engine::Find;
+use shape::reach;
 
 pub const MOST: usize = 1024;
 
@@ -16,7 +17,7 @@ pub struct Gathered {
 }
 
 fn keep(action: Action, k: usize, numbers: &mut [u32], places: &mut [u64], bands: &mut [u32])
-    requires { ⌜ (k < 1024) × Rooms (now numbers) (now places) (now bands) ⌝ }
+    requires { ⌜ (k < most) × Rooms (now numbers) (now places) (now bands) ⌝ }
     ensures { λ _. ⌜ Keeps action k (now (numbers .entry)) (now (places .entry)) (now (bands .entry)) (now (numbers .exit)) (now (places .exit)) (now (bands .exit)) ⌝ }
 {
     let rows = reach::rows_of(action);
@@ -34,10 +35,10 @@ pub fn gather(
     places: &mut [u64],
     bands: &mut [u32],
 ) -> Gathered
-    requires { ⌜ ((length (now list) ≤ 8192) × (memory ≤ 2 ^ 20)) × Rooms (now numbers) (now places) (now bands) ⌝ }
+    requires { ⌜ WithinLimits (now list) memory × Rooms (now numbers) (now places) (now bands) ⌝ }
     ensures { λ r. ⌜ Gathers (now (list .entry)) memory limit r (now (numbers .exit)) (now (places .exit)) (now (bands .exit)) ⌝ }
 {
-    let mut handles = [0; 512];
+    let mut handles = [0; engine::SETTINGS];
     let mut engine = Engine::start();
     let mut left = limit;
     let mut count: usize = 0;
@@ -51,10 +52,7 @@ pub fn gather(
             Find::Drew(action) => {
                 keep(action, count, numbers, places, bands);
             }
-            Find::Over {
-                number: _,
-                place: _,
-            } => {
+            Find::Over(_) => {
                 return Gathered {
                     count: count,
                     all: true,

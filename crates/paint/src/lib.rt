@@ -3,16 +3,15 @@
 ghost use mathlib.Core.Path.{_≡_};
 ghost use Prim.Native.Nat.{_<_, _≤_, _+_, _*_, _^_};
 ghost use lib.ListN.{length};
-ghost use Rattle.engine.specs.Run.{run, atStart};
-ghost use Rattle.units.specs.Units.{pixelAt};
+ghost use Rattle.engine.specs.Run.{WithinLimits, actionsOf};
+ghost use Rattle.units.specs.Units.{pixelAt, tallest, widest};
 ghost use Rattle.store.specs.Store.{keptAt};
-ghost use Rattle.paint.specs.Actions.{AllBands, BandAt, Gathers, Rooms, keptUpTo};
-ghost use Rattle.paint.specs.Picture.{coloursFrom, tagsFrom, mended, rowColours, rowTags};
-ghost use Rattle.paint.specs.Runs.{Lent, Drawn, DrawnAll, pixelIn};
+ghost use Rattle.paint.specs.Actions.{AllBands, BandAt, Gathers, Rooms, keptUpTo, most};
+ghost use Rattle.paint.specs.Picture.{coloursFrom, tagsFrom, patched, rowColours, rowTags};
+ghost use Rattle.paint.specs.Runs.{Lent, HoldRows, Drawn, DrawnAll, pixelIn};
 
 mod kept;
 mod point;
-pub mod reach;
 mod row;
 
 use engine::Engine;
@@ -34,9 +33,11 @@ fn draw_kept(
     alpha: &mut [u8],
     stencil: &mut [u8],
 )
-    requires { ⌜ (y < 600) × Lent width (now picture) (now tags) (now alpha) (now stencil) ⌝ }
-    requires { ⌜ (k < 1024) × (Rooms (now numbers) (now places) (now bands) × BandAt (now numbers) (now places) (now bands) k) ⌝ }
-    ensures { λ _. ⌜ Drawn (now (memory .entry)) (keptAt (now (numbers .entry)) (now (places .entry)) k) width (pixelAt y) (pixelIn (now (picture .entry)) (now (tags .entry)) (now (alpha .entry)) (now (stencil .entry))) (pixelIn (now (picture .exit)) (now (tags .exit)) (now (alpha .exit)) (now (stencil .exit))) ⌝ }
+    requires { ⌜ (y < tallest) × Lent width (now picture) (now tags) (now alpha) (now stencil) ⌝ }
+    requires { ⌜ (k < most) × (Rooms (now numbers) (now places) (now bands) × BandAt (now numbers) (now places) (now bands) k) ⌝ }
+    ensures { λ _. ⌜ Drawn (now (memory .entry)) (keptAt (now (numbers .entry)) (now (places .entry)) k) width (pixelAt y)
+        (pixelIn (now (picture .entry)) (now (tags .entry)) (now (alpha .entry)) (now (stencil .entry)))
+        (pixelIn (now (picture .exit)) (now (tags .exit)) (now (alpha .exit)) (now (stencil .exit))) ⌝ }
 {
     let top = bands[2 * k];
     let bottom = bands[2 * k + 1];
@@ -68,9 +69,11 @@ fn draw_all_kept(
     alpha: &mut [u8],
     stencil: &mut [u8],
 )
-    requires { ⌜ (y < 600) × Lent width (now picture) (now tags) (now alpha) (now stencil) ⌝ }
-    requires { ⌜ (count ≤ 1024) × (Rooms (now numbers) (now places) (now bands) × AllBands (now numbers) (now places) (now bands) count) ⌝ }
-    ensures { λ _. ⌜ DrawnAll (now (memory .entry)) (keptUpTo (now (numbers .entry)) (now (places .entry)) count) width (pixelAt y) (pixelIn (now (picture .entry)) (now (tags .entry)) (now (alpha .entry)) (now (stencil .entry))) (pixelIn (now (picture .exit)) (now (tags .exit)) (now (alpha .exit)) (now (stencil .exit))) ⌝ }
+    requires { ⌜ (y < tallest) × Lent width (now picture) (now tags) (now alpha) (now stencil) ⌝ }
+    requires { ⌜ (count ≤ most) × (Rooms (now numbers) (now places) (now bands) × AllBands (now numbers) (now places) (now bands) count) ⌝ }
+    ensures { λ _. ⌜ DrawnAll (now (memory .entry)) (keptUpTo (now (numbers .entry)) (now (places .entry)) count) width (pixelAt y)
+        (pixelIn (now (picture .entry)) (now (tags .entry)) (now (alpha .entry)) (now (stencil .entry)))
+        (pixelIn (now (picture .exit)) (now (tags .exit)) (now (alpha .exit)) (now (stencil .exit))) ⌝ }
 {
     let mut k: usize = 0;
     while k < count {
@@ -103,11 +106,13 @@ fn draw_list(
     alpha: &mut [u8],
     stencil: &mut [u8],
 )
-    requires { ⌜ (length (now list) ≤ 8192) × (length (now memory) ≤ 2 ^ 20) ⌝ }
-    requires { ⌜ (y < 600) × Lent width (now picture) (now tags) (now alpha) (now stencil) ⌝ }
-    ensures { λ _. ⌜ DrawnAll (now (memory .entry)) (run (now (list .entry)) (length (now (memory .entry))) limit atStart .actions) width (pixelAt y) (pixelIn (now (picture .entry)) (now (tags .entry)) (now (alpha .entry)) (now (stencil .entry))) (pixelIn (now (picture .exit)) (now (tags .exit)) (now (alpha .exit)) (now (stencil .exit))) ⌝ }
+    requires { ⌜ WithinLimits (now list) (length (now memory)) ⌝ }
+    requires { ⌜ (y < tallest) × Lent width (now picture) (now tags) (now alpha) (now stencil) ⌝ }
+    ensures { λ _. ⌜ DrawnAll (now (memory .entry)) (actionsOf (now (list .entry)) (length (now (memory .entry))) limit) width (pixelAt y)
+        (pixelIn (now (picture .entry)) (now (tags .entry)) (now (alpha .entry)) (now (stencil .entry)))
+        (pixelIn (now (picture .exit)) (now (tags .exit)) (now (alpha .exit)) (now (stencil .exit))) ⌝ }
 {
-    let mut handles = [0; 512];
+    let mut handles = [0; engine::SETTINGS];
     let mut engine = Engine::start();
     let mut left = limit;
     while 0 < left {
@@ -129,10 +134,7 @@ fn draw_list(
                     stencil,
                 );
             }
-            Find::Over {
-                number: _,
-                place: _,
-            } => {
+            Find::Over(_) => {
                 return;
             }
         }
@@ -155,10 +157,12 @@ fn draw_all(
     alpha: &mut [u8],
     stencil: &mut [u8],
 )
-    requires { ⌜ (length (now list) ≤ 8192) × (length (now memory) ≤ 2 ^ 20) ⌝ }
+    requires { ⌜ WithinLimits (now list) (length (now memory)) ⌝ }
     requires { ⌜ Gathers (now list) (length (now memory)) limit gathered (now numbers) (now places) (now bands) ⌝ }
-    requires { ⌜ (y < 600) × Lent width (now picture) (now tags) (now alpha) (now stencil) ⌝ }
-    ensures { λ _. ⌜ DrawnAll (now (memory .entry)) (run (now (list .entry)) (length (now (memory .entry))) limit atStart .actions) width (pixelAt y) (pixelIn (now (picture .entry)) (now (tags .entry)) (now (alpha .entry)) (now (stencil .entry))) (pixelIn (now (picture .exit)) (now (tags .exit)) (now (alpha .exit)) (now (stencil .exit))) ⌝ }
+    requires { ⌜ (y < tallest) × Lent width (now picture) (now tags) (now alpha) (now stencil) ⌝ }
+    ensures { λ _. ⌜ DrawnAll (now (memory .entry)) (actionsOf (now (list .entry)) (length (now (memory .entry))) limit) width (pixelAt y)
+        (pixelIn (now (picture .entry)) (now (tags .entry)) (now (alpha .entry)) (now (stencil .entry)))
+        (pixelIn (now (picture .exit)) (now (tags .exit)) (now (alpha .exit)) (now (stencil .exit))) ⌝ }
 {
     let count = gathered.count;
     if gathered.all {
@@ -194,11 +198,11 @@ fn paint_row(
     picture: &mut [u8],
     tags: &mut [u8],
 )
-    requires { ⌜ (length (now list) ≤ 8192) × (length (now memory) ≤ 2 ^ 20) ⌝ }
+    requires { ⌜ WithinLimits (now list) (length (now memory)) ⌝ }
     requires { ⌜ Gathers (now list) (length (now memory)) limit gathered (now numbers) (now places) (now bands) ⌝ }
-    requires { ⌜ (y < 600) × ((width ≤ 800) × ((length (now picture) ≡ 3 * width) × (length (now tags) ≡ width))) ⌝ }
-    ensures { λ _. ⌜ now (picture .exit) ≡ rowColours (now (memory .entry)) (run (now (list .entry)) (length (now (memory .entry))) limit atStart .actions) width y ⌝ }
-    ensures { λ _. ⌜ now (tags .exit) ≡ rowTags (now (memory .entry)) (run (now (list .entry)) (length (now (memory .entry))) limit atStart .actions) width y ⌝ }
+    requires { ⌜ (y < tallest) × ((width ≤ widest) × ((length (now picture) ≡ 3 * width) × (length (now tags) ≡ width))) ⌝ }
+    ensures { λ _. ⌜ now (picture .exit) ≡ rowColours (now (memory .entry)) (actionsOf (now (list .entry)) (length (now (memory .entry))) limit) width y ⌝ }
+    ensures { λ _. ⌜ now (tags .exit) ≡ rowTags (now (memory .entry)) (actionsOf (now (list .entry)) (length (now (memory .entry))) limit) width y ⌝ }
 {
     let mut alpha = [0u8; 800];
     let mut stencil = [0u8; 800];
@@ -235,11 +239,11 @@ fn paint_each_row(
     picture: &mut [u8],
     tags: &mut [u8],
 )
-    requires { ⌜ (length (now list) ≤ 8192) × (length (now memory) ≤ 2 ^ 20) ⌝ }
+    requires { ⌜ WithinLimits (now list) (length (now memory)) ⌝ }
     requires { ⌜ Gathers (now list) (length (now memory)) limit gathered (now numbers) (now places) (now bands) ⌝ }
-    requires { ⌜ (first + count ≤ 600) × ((width ≤ 800) × ((length (now picture) ≡ count * (3 * width)) × (length (now tags) ≡ count * width))) ⌝ }
-    ensures { λ _. ⌜ now (picture .exit) ≡ coloursFrom (now (memory .entry)) (run (now (list .entry)) (length (now (memory .entry))) limit atStart .actions) width first count ⌝ }
-    ensures { λ _. ⌜ now (tags .exit) ≡ tagsFrom (now (memory .entry)) (run (now (list .entry)) (length (now (memory .entry))) limit atStart .actions) width first count ⌝ }
+    requires { ⌜ (first + count ≤ tallest) × HoldRows width count (now picture) (now tags) ⌝ }
+    ensures { λ _. ⌜ now (picture .exit) ≡ coloursFrom (now (memory .entry)) (actionsOf (now (list .entry)) (length (now (memory .entry))) limit) width first count ⌝ }
+    ensures { λ _. ⌜ now (tags .exit) ≡ tagsFrom (now (memory .entry)) (actionsOf (now (list .entry)) (length (now (memory .entry))) limit) width first count ⌝ }
 {
     let wide = width as usize;
     let mut y: u32 = 0;
@@ -278,10 +282,10 @@ pub fn paint_rows(
     picture: &mut [u8],
     tags: &mut [u8],
 )
-    requires { ⌜ (length (now list) ≤ 8192) × (length (now memory) ≤ 2 ^ 20) ⌝ }
-    requires { ⌜ (first + count ≤ 600) × ((width ≤ 800) × ((length (now picture) ≡ count * (3 * width)) × (length (now tags) ≡ count * width))) ⌝ }
-    ensures { λ _. ⌜ now (picture .exit) ≡ coloursFrom (now (memory .entry)) (run (now (list .entry)) (length (now (memory .entry))) limit atStart .actions) width first count ⌝ }
-    ensures { λ _. ⌜ now (tags .exit) ≡ tagsFrom (now (memory .entry)) (run (now (list .entry)) (length (now (memory .entry))) limit atStart .actions) width first count ⌝ }
+    requires { ⌜ WithinLimits (now list) (length (now memory)) ⌝ }
+    requires { ⌜ (first + count ≤ tallest) × HoldRows width count (now picture) (now tags) ⌝ }
+    ensures { λ _. ⌜ now (picture .exit) ≡ coloursFrom (now (memory .entry)) (actionsOf (now (list .entry)) (length (now (memory .entry))) limit) width first count ⌝ }
+    ensures { λ _. ⌜ now (tags .exit) ≡ tagsFrom (now (memory .entry)) (actionsOf (now (list .entry)) (length (now (memory .entry))) limit) width first count ⌝ }
 {
     let mut numbers = [0; store::NUMBERS * kept::MOST];
     let mut places = [0; store::PLACES * kept::MOST];
@@ -323,11 +327,17 @@ fn paint_each_marked(
     picture: &mut [u8],
     tags: &mut [u8],
 )
-    requires { ⌜ (length (now list) ≤ 8192) × (length (now memory) ≤ 2 ^ 20) ⌝ }
+    requires { ⌜ WithinLimits (now list) (length (now memory)) ⌝ }
     requires { ⌜ Gathers (now list) (length (now memory)) limit gathered (now numbers) (now places) (now bands) ⌝ }
-    requires { ⌜ (length (now marks) ≤ 600) × ((width ≤ 800) × ((length (now picture) ≡ length (now marks) * (3 * width)) × (length (now tags) ≡ length (now marks) * width))) ⌝ }
-    ensures { λ _. ⌜ now (picture .exit) ≡ mended (now (marks .entry)) (rowColours (now (memory .entry)) (run (now (list .entry)) (length (now (memory .entry))) limit atStart .actions) width) (3 * width) (now (picture .entry)) ⌝ }
-    ensures { λ _. ⌜ now (tags .exit) ≡ mended (now (marks .entry)) (rowTags (now (memory .entry)) (run (now (list .entry)) (length (now (memory .entry))) limit atStart .actions) width) width (now (tags .entry)) ⌝ }
+    requires { ⌜ (length (now marks) ≤ tallest) × HoldRows width (length (now marks)) (now picture) (now tags) ⌝ }
+    ensures { λ _. ⌜ now (picture .exit) ≡ patched (now (marks .entry))
+        (rowColours (now (memory .entry)) (actionsOf (now (list .entry)) (length (now (memory .entry))) limit) width)
+        (3 * width)
+        (now (picture .entry)) ⌝ }
+    ensures { λ _. ⌜ now (tags .exit) ≡ patched (now (marks .entry))
+        (rowTags (now (memory .entry)) (actionsOf (now (list .entry)) (length (now (memory .entry))) limit) width)
+        width
+        (now (tags .entry)) ⌝ }
 {
     let wide = width as usize;
     let mut y: usize = 0;
@@ -367,10 +377,16 @@ pub fn paint_marked(
     picture: &mut [u8],
     tags: &mut [u8],
 )
-    requires { ⌜ (length (now list) ≤ 8192) × (length (now memory) ≤ 2 ^ 20) ⌝ }
-    requires { ⌜ (length (now marks) ≤ 600) × ((width ≤ 800) × ((length (now picture) ≡ length (now marks) * (3 * width)) × (length (now tags) ≡ length (now marks) * width))) ⌝ }
-    ensures { λ _. ⌜ now (picture .exit) ≡ mended (now (marks .entry)) (rowColours (now (memory .entry)) (run (now (list .entry)) (length (now (memory .entry))) limit atStart .actions) width) (3 * width) (now (picture .entry)) ⌝ }
-    ensures { λ _. ⌜ now (tags .exit) ≡ mended (now (marks .entry)) (rowTags (now (memory .entry)) (run (now (list .entry)) (length (now (memory .entry))) limit atStart .actions) width) width (now (tags .entry)) ⌝ }
+    requires { ⌜ WithinLimits (now list) (length (now memory)) ⌝ }
+    requires { ⌜ (length (now marks) ≤ tallest) × HoldRows width (length (now marks)) (now picture) (now tags) ⌝ }
+    ensures { λ _. ⌜ now (picture .exit) ≡ patched (now (marks .entry))
+        (rowColours (now (memory .entry)) (actionsOf (now (list .entry)) (length (now (memory .entry))) limit) width)
+        (3 * width)
+        (now (picture .entry)) ⌝ }
+    ensures { λ _. ⌜ now (tags .exit) ≡ patched (now (marks .entry))
+        (rowTags (now (memory .entry)) (actionsOf (now (list .entry)) (length (now (memory .entry))) limit) width)
+        width
+        (now (tags .entry)) ⌝ }
 {
     let mut numbers = [0; store::NUMBERS * kept::MOST];
     let mut places = [0; store::PLACES * kept::MOST];

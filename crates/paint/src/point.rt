@@ -39,7 +39,9 @@ pub fn write(
     stencil: &mut [u8],
 )
     requires { ⌜ (x < width) × Lent width (now picture) (now tags) (now alpha) (now stencil) ⌝ }
-    ensures { λ _. ⌜ Touched x (λ _. pixel) (pixelIn (now (picture .entry)) (now (tags .entry)) (now (alpha .entry)) (now (stencil .entry))) (pixelIn (now (picture .exit)) (now (tags .exit)) (now (alpha .exit)) (now (stencil .exit))) ⌝ }
+    ensures { λ _. ⌜ Touched x (λ _. pixel)
+        (pixelIn (now (picture .entry)) (now (tags .entry)) (now (alpha .entry)) (now (stencil .entry)))
+        (pixelIn (now (picture .exit)) (now (tags .exit)) (now (alpha .exit)) (now (stencil .exit))) ⌝ }
 {
     let i = 3 * x;
     picture[i] = pixel.red;
@@ -61,7 +63,9 @@ pub fn fill(
     stencil: &[u8],
 )
     requires { ⌜ (x < width) × Lent width (now picture) (now tags) (now alpha) (now stencil) ⌝ }
-    ensures { λ _. ⌜ Touched x (filled with) (pixelIn (now (picture .entry)) (now (tags .entry)) (now (alpha .entry)) (now (stencil .entry))) (pixelIn (now (picture .exit)) (now (tags .exit)) (now (alpha .exit)) (now (stencil .entry))) ⌝ }
+    ensures { λ _. ⌜ Touched x (filled with)
+        (pixelIn (now (picture .entry)) (now (tags .entry)) (now (alpha .entry)) (now (stencil .entry)))
+        (pixelIn (now (picture .exit)) (now (tags .exit)) (now (alpha .exit)) (now (stencil .entry))) ⌝ }
 {
     let i = 3 * x;
     picture[i] = with.red;

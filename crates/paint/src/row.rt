@@ -1,13 +1,12 @@
 // One action drawn into one row. `draw` shows the order: which columns the action reaches, whether it does the same to all
 // of them, and then the columns one by one.
 ghost use mathlib.Core.Path.{_≡_};
-ghost use Prim.Native.Nat.{_<_, _≤_, _-_};
+ghost use Prim.Native.Nat.{_<_, _≤_};
 ghost use Rattle.pixel.specs.Plain.{filled};
 ghost use Rattle.pixel.specs.Pixel.{cleared};
 ghost use Rattle.shape.specs.OneRow.{InFrame};
-ghost use Rattle.paint.specs.Runs.{Lent, Swept, Touched, PlainDrawing, PlainOver, Drawn, brushOf, change, held, inked, pixelIn, texelIn};
+ghost use Rattle.paint.specs.Runs.{Lent, Swept, Touched, PlainDrawing, PlainOver, Drawn, coatOf, change, held, inked, pixelIn, texelIn};
 use crate::point;
-use crate::reach;
 use action::Action;
 use action::Bitmap;
 use action::Clear;
@@ -19,6 +18,7 @@ use pixel::Fill;
 use pixel::Pixel;
 use pixel::Plain;
 use shape::Chord;
+use shape::reach;
 use units::Pixels;
 
 // The columns of a row that an action can reach, from the one on and before the other; which of them it does reach, the
@@ -37,7 +37,7 @@ pub enum Texture {
 }
 
 // What every drawing but a CLEAR is drawn with.
-pub struct Brush {
+pub struct Coat {
     pub texture: Texture,
     pub ink: Ink,
     pub masks: Masks,
@@ -72,32 +72,26 @@ fn plainly(drawing: Drawing, masks: Masks, chord: Chord) -> Plain
     }
 }
 
-impl Brush {
-    fn plain(ink: Ink, masks: Masks) -> Brush
-        ensures { λ r. ⌜ r ≡ brushOf Texture.White ink masks ⌝ }
+impl Coat {
+    fn plain(ink: Ink, masks: Masks) -> Coat
+        ensures { λ r. ⌜ r ≡ coatOf Texture.White ink masks ⌝ }
     {
-        Brush {
+        Coat {
             texture: Texture::White,
             ink: ink,
             masks: masks,
         }
     }
 
-    fn textured(bitmap: Bitmap, ink: Ink, masks: Masks) -> Brush
-        ensures { λ r. ⌜ r ≡ brushOf (Texture.Of bitmap) ink masks ⌝ }
+    fn textured(bitmap: Bitmap, ink: Ink, masks: Masks) -> Coat
+        ensures { λ r. ⌜ r ≡ coatOf (Texture.Of bitmap) ink masks ⌝ }
     {
-        Brush {
+        Coat {
             texture: Texture::Of(bitmap),
             ink: ink,
             masks: masks,
         }
     }
-}
-
-fn less(a: u64, b: u64) -> u64
-    ensures { λ r. ⌜ r ≡ a - b ⌝ }
-{
-    if b < a { a - b } else { 0 }
 }
 
 fn texel_at(texture: Texture, p: Pixels, q: Pixels, memory: &[u8]) -> Colour
@@ -107,8 +101,8 @@ fn texel_at(texture: Texture, p: Pixels, q: Pixels, memory: &[u8]) -> Colour
         Texture::White => pixel::white(),
         Texture::Of(bitmap) => {
             let area = bitmap.area;
-            let column = less(p.0, area.left.0);
-            let line = less(q.0, area.top.0);
+            let column = units::less(p.0, area.left.0);
+            let line = units::less(q.0, area.top.0);
             texel::texel(bitmap, column, line, memory)
         }
     }
@@ -123,7 +117,9 @@ fn wipe_columns(
     stencil: &mut [u8],
 )
     requires { ⌜ (stretch .to ≤ stretch .width) × Lent (stretch .width) (now picture) (now tags) (now alpha) (now stencil) ⌝ }
-    ensures { λ _. ⌜ Swept (stretch .from) (stretch .to) (λ _ _. with) (pixelIn (now (picture .entry)) (now (tags .entry)) (now (alpha .entry)) (now (stencil .entry))) (pixelIn (now (picture .exit)) (now (tags .exit)) (now (alpha .exit)) (now (stencil .exit))) ⌝ }
+    ensures { λ _. ⌜ Swept (stretch .from) (stretch .to) (λ _ _. with)
+        (pixelIn (now (picture .entry)) (now (tags .entry)) (now (alpha .entry)) (now (stencil .entry)))
+        (pixelIn (now (picture .exit)) (now (tags .exit)) (now (alpha .exit)) (now (stencil .exit))) ⌝ }
 {
     let mut x = stretch.from;
     while x < stretch.to {
@@ -142,7 +138,9 @@ fn fill_column(
     stencil: &[u8],
 )
     requires { ⌜ (x < stretch .width) × Lent (stretch .width) (now picture) (now tags) (now alpha) (now stencil) ⌝ }
-    ensures { λ _. ⌜ Touched x (held (stretch .chord) (λ _. filled with) x) (pixelIn (now (picture .entry)) (now (tags .entry)) (now (alpha .entry)) (now (stencil .entry))) (pixelIn (now (picture .exit)) (now (tags .exit)) (now (alpha .exit)) (now (stencil .entry))) ⌝ }
+    ensures { λ _. ⌜ Touched x (held (stretch .chord) (λ _. filled with) x)
+        (pixelIn (now (picture .entry)) (now (tags .entry)) (now (alpha .entry)) (now (stencil .entry)))
+        (pixelIn (now (picture .exit)) (now (tags .exit)) (now (alpha .exit)) (now (stencil .entry))) ⌝ }
 {
     let chord = stretch.chord;
     if chord.holds(Pixels::of(x as u32)) {
@@ -159,7 +157,9 @@ fn fill_columns(
     stencil: &[u8],
 )
     requires { ⌜ (stretch .to ≤ stretch .width) × Lent (stretch .width) (now picture) (now tags) (now alpha) (now stencil) ⌝ }
-    ensures { λ _. ⌜ Swept (stretch .from) (stretch .to) (held (stretch .chord) (λ _. filled with)) (pixelIn (now (picture .entry)) (now (tags .entry)) (now (alpha .entry)) (now (stencil .entry))) (pixelIn (now (picture .exit)) (now (tags .exit)) (now (alpha .exit)) (now (stencil .entry))) ⌝ }
+    ensures { λ _. ⌜ Swept (stretch .from) (stretch .to) (held (stretch .chord) (λ _. filled with))
+        (pixelIn (now (picture .entry)) (now (tags .entry)) (now (alpha .entry)) (now (stencil .entry)))
+        (pixelIn (now (picture .exit)) (now (tags .exit)) (now (alpha .exit)) (now (stencil .entry))) ⌝ }
 {
     let mut x = stretch.from;
     while x < stretch.to {
@@ -179,7 +179,9 @@ fn clear_column(
     stencil: &mut [u8],
 )
     requires { ⌜ (x < stretch .width) × Lent (stretch .width) (now picture) (now tags) (now alpha) (now stencil) ⌝ }
-    ensures { λ _. ⌜ Touched x (held (stretch .chord) (λ _. cleared clear masks) x) (pixelIn (now (picture .entry)) (now (tags .entry)) (now (alpha .entry)) (now (stencil .entry))) (pixelIn (now (picture .exit)) (now (tags .exit)) (now (alpha .exit)) (now (stencil .exit))) ⌝ }
+    ensures { λ _. ⌜ Touched x (held (stretch .chord) (λ _. cleared clear masks) x)
+        (pixelIn (now (picture .entry)) (now (tags .entry)) (now (alpha .entry)) (now (stencil .entry)))
+        (pixelIn (now (picture .exit)) (now (tags .exit)) (now (alpha .exit)) (now (stencil .exit))) ⌝ }
 {
     let chord = stretch.chord;
     if chord.holds(Pixels::of(x as u32)) {
@@ -199,7 +201,9 @@ fn clear_columns(
     stencil: &mut [u8],
 )
     requires { ⌜ (stretch .to ≤ stretch .width) × Lent (stretch .width) (now picture) (now tags) (now alpha) (now stencil) ⌝ }
-    ensures { λ _. ⌜ Swept (stretch .from) (stretch .to) (held (stretch .chord) (λ _. cleared clear masks)) (pixelIn (now (picture .entry)) (now (tags .entry)) (now (alpha .entry)) (now (stencil .entry))) (pixelIn (now (picture .exit)) (now (tags .exit)) (now (alpha .exit)) (now (stencil .exit))) ⌝ }
+    ensures { λ _. ⌜ Swept (stretch .from) (stretch .to) (held (stretch .chord) (λ _. cleared clear masks))
+        (pixelIn (now (picture .entry)) (now (tags .entry)) (now (alpha .entry)) (now (stencil .entry)))
+        (pixelIn (now (picture .exit)) (now (tags .exit)) (now (alpha .exit)) (now (stencil .exit))) ⌝ }
 {
     let mut x = stretch.from;
     while x < stretch.to {
@@ -211,7 +215,7 @@ fn clear_columns(
 fn ink_column(
     x: usize,
     stretch: Stretch,
-    brush: Brush,
+    coat: Coat,
     q: Pixels,
     memory: &[u8],
     picture: &mut [u8],
@@ -220,14 +224,16 @@ fn ink_column(
     stencil: &mut [u8],
 )
     requires { ⌜ (x < stretch .width) × Lent (stretch .width) (now picture) (now tags) (now alpha) (now stencil) ⌝ }
-    ensures { λ _. ⌜ Touched x (held (stretch .chord) (inked (now (memory .entry)) brush q) x) (pixelIn (now (picture .entry)) (now (tags .entry)) (now (alpha .entry)) (now (stencil .entry))) (pixelIn (now (picture .exit)) (now (tags .exit)) (now (alpha .exit)) (now (stencil .exit))) ⌝ }
+    ensures { λ _. ⌜ Touched x (held (stretch .chord) (inked (now (memory .entry)) coat q) x)
+        (pixelIn (now (picture .entry)) (now (tags .entry)) (now (alpha .entry)) (now (stencil .entry)))
+        (pixelIn (now (picture .exit)) (now (tags .exit)) (now (alpha .exit)) (now (stencil .exit))) ⌝ }
 {
     let chord = stretch.chord;
     let p = Pixels::of(x as u32);
     if chord.holds(p) {
-        let texture = brush.texture;
-        let ink = brush.ink;
-        let masks = brush.masks;
+        let texture = coat.texture;
+        let ink = coat.ink;
+        let masks = coat.masks;
         let texel = texel_at(texture, p, q, memory);
         let before = point::read(x, stretch.width, picture, tags, alpha, stencil);
         let after = pixel::paint(ink, masks, texel, before);
@@ -237,7 +243,7 @@ fn ink_column(
 
 fn ink_columns(
     stretch: Stretch,
-    brush: Brush,
+    coat: Coat,
     q: Pixels,
     memory: &[u8],
     picture: &mut [u8],
@@ -246,11 +252,13 @@ fn ink_columns(
     stencil: &mut [u8],
 )
     requires { ⌜ (stretch .to ≤ stretch .width) × Lent (stretch .width) (now picture) (now tags) (now alpha) (now stencil) ⌝ }
-    ensures { λ _. ⌜ Swept (stretch .from) (stretch .to) (held (stretch .chord) (inked (now (memory .entry)) brush q)) (pixelIn (now (picture .entry)) (now (tags .entry)) (now (alpha .entry)) (now (stencil .entry))) (pixelIn (now (picture .exit)) (now (tags .exit)) (now (alpha .exit)) (now (stencil .exit))) ⌝ }
+    ensures { λ _. ⌜ Swept (stretch .from) (stretch .to) (held (stretch .chord) (inked (now (memory .entry)) coat q))
+        (pixelIn (now (picture .entry)) (now (tags .entry)) (now (alpha .entry)) (now (stencil .entry)))
+        (pixelIn (now (picture .exit)) (now (tags .exit)) (now (alpha .exit)) (now (stencil .exit))) ⌝ }
 {
     let mut x = stretch.from;
     while x < stretch.to {
-        ink_column(x, stretch, brush, q, memory, picture, tags, alpha, stencil);
+        ink_column(x, stretch, coat, q, memory, picture, tags, alpha, stencil);
         x += 1;
     }
 }
@@ -268,19 +276,21 @@ fn draw_columns(
     stencil: &mut [u8],
 )
     requires { ⌜ (stretch .to ≤ stretch .width) × Lent (stretch .width) (now picture) (now tags) (now alpha) (now stencil) ⌝ }
-    ensures { λ _. ⌜ Swept (stretch .from) (stretch .to) (held (stretch .chord) (change (now (memory .entry)) masks drawing q)) (pixelIn (now (picture .entry)) (now (tags .entry)) (now (alpha .entry)) (now (stencil .entry))) (pixelIn (now (picture .exit)) (now (tags .exit)) (now (alpha .exit)) (now (stencil .exit))) ⌝ }
+    ensures { λ _. ⌜ Swept (stretch .from) (stretch .to) (held (stretch .chord) (change (now (memory .entry)) masks drawing q))
+        (pixelIn (now (picture .entry)) (now (tags .entry)) (now (alpha .entry)) (now (stencil .entry)))
+        (pixelIn (now (picture .exit)) (now (tags .exit)) (now (alpha .exit)) (now (stencil .exit))) ⌝ }
 {
     match drawing {
         Drawing::Clear(clear) => {
             clear_columns(stretch, clear, masks, picture, tags, alpha, stencil);
         }
         Drawing::Point(_, ink) | Drawing::Rectangle(_, ink) | Drawing::Segment(_, ink) => {
-            let brush = Brush::plain(ink, masks);
-            ink_columns(stretch, brush, q, memory, picture, tags, alpha, stencil);
+            let coat = Coat::plain(ink, masks);
+            ink_columns(stretch, coat, q, memory, picture, tags, alpha, stencil);
         }
         Drawing::Bitmap(bitmap, ink) => {
-            let brush = Brush::textured(bitmap, ink, masks);
-            ink_columns(stretch, brush, q, memory, picture, tags, alpha, stencil);
+            let coat = Coat::textured(bitmap, ink, masks);
+            ink_columns(stretch, coat, q, memory, picture, tags, alpha, stencil);
         }
     }
 }
@@ -300,7 +310,9 @@ fn draw_stretch(
 )
     requires { ⌜ (stretch .to ≤ stretch .width) × Lent (stretch .width) (now picture) (now tags) (now alpha) (now stencil) ⌝ }
     requires { ⌜ PlainOver (stretch .chord) masks drawing plain ⌝ }
-    ensures { λ _. ⌜ Swept (stretch .from) (stretch .to) (held (stretch .chord) (change (now (memory .entry)) masks drawing q)) (pixelIn (now (picture .entry)) (now (tags .entry)) (now (alpha .entry)) (now (stencil .entry))) (pixelIn (now (picture .exit)) (now (tags .exit)) (now (alpha .exit)) (now (stencil .exit))) ⌝ }
+    ensures { λ _. ⌜ Swept (stretch .from) (stretch .to) (held (stretch .chord) (change (now (memory .entry)) masks drawing q))
+        (pixelIn (now (picture .entry)) (now (tags .entry)) (now (alpha .entry)) (now (stencil .entry)))
+        (pixelIn (now (picture .exit)) (now (tags .exit)) (now (alpha .exit)) (now (stencil .exit))) ⌝ }
 {
     match plain {
         Plain::Nothing => {}
@@ -338,7 +350,9 @@ pub fn draw(
     stencil: &mut [u8],
 )
     requires { ⌜ InFrame width q × Lent width (now picture) (now tags) (now alpha) (now stencil) ⌝ }
-    ensures { λ _. ⌜ Drawn (now (memory .entry)) action width q (pixelIn (now (picture .entry)) (now (tags .entry)) (now (alpha .entry)) (now (stencil .entry))) (pixelIn (now (picture .exit)) (now (tags .exit)) (now (alpha .exit)) (now (stencil .exit))) ⌝ }
+    ensures { λ _. ⌜ Drawn (now (memory .entry)) action width q
+        (pixelIn (now (picture .entry)) (now (tags .entry)) (now (alpha .entry)) (now (stencil .entry)))
+        (pixelIn (now (picture .exit)) (now (tags .exit)) (now (alpha .exit)) (now (stencil .exit))) ⌝ }
 {
     let drawing = action.drawing;
     let masks = action.masks;

@@ -14,7 +14,7 @@ use borrow.Author.Tests.{eq-eqb, eqb-true, ltb-false, ltb-true}
 use Rattle.truth.proofs.Bools.{not-so}
 use Rattle.engine.specs.declared.run.Find.{Find}
 use Rattle.paint.specs.Picture.{isMarked}
-use Rattle.shape.specs.OneRow.{smaller}
+use Rattle.units.specs.Units.{smaller, tallest, widest}
 use Rattle.repaint.specs.Repaint.{marked}
 use Rattle.repaint.specs.Rows.{Stood, Touches, Turns, beside, meetsRow, standing}
 use Rattle.repaint.specs.declared.compare.Pace.{Pace}
@@ -66,7 +66,7 @@ turns-done d l = record { turned = λ k h e. d .moved k (omega arith) (omega ari
 
 -- rows that a step does not touch stand beside as before
 pub stood-done :
-    (old new : Find) (pace : Pace) (width from to : ℕ) {marks now : List ℕ} {y : ℕ} → Touches old new pace from to → length marks ≤ 600 → width ≤ 800 →
+    (old new : Find) (pace : Pace) (width from to : ℕ) {marks now : List ℕ} {y : ℕ} → Touches old new pace from to → length marks ≤ tallest → width ≤ widest →
     Done beside (λ k. standing (meetsRow old width k) (meetsRow new width k) pace) from marks now y → (y ≤ smaller to (length marks)) ⊎ (y ≡ from) →
     smaller to (length marks) ≤ y → Stood width old new pace marks now
 stood-done old new pace width from to {marks} {now} {y} touch high wide d most l = record {

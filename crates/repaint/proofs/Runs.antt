@@ -15,12 +15,12 @@ use Rattle.repaint.specs.Rows.{GoesOn, ahead, isDrawn, passed, weight, w
 then-actions : (k : ℕ) (find : Find) (rest : Ran) → heard true (then k find rest) .actions ≡ withRest find (rest .actions)
 unfolding heard then withRest
 then-actions k (f.Drew a) rest = refl
-then-actions k (f.Over number place) rest = refl
+then-actions k (f.Over stop) rest = refl
 
 lighter : (halt : Bool) (allowed : ℕ) (engine : Engine) (left : ℕ) (find : Find) → Spent halt allowed left find → weight (record { engine = engine; left = left; find = find }) < allowed + 1
 unfolding Spent isDrawn
 lighter halt allowed engine left (f.Drew a) s = omega (arith, s .1)
-lighter halt allowed engine left (f.Over number place) s = omega (arith, s)
+lighter halt allowed engine left (f.Over stop) s = omega (arith, s)
 
 module _ {list : List ℕ} {memory left : ℕ} {engine : Engine} {handles after : List ℕ} {next : Advanced}
     (went : Advances list memory left true (record { engine = engine; handles = handles }) next after) where

@@ -12,9 +12,9 @@ use lib.Seq.{ext-getD}
 use borrow.Author.Tests.{eqb-false}
 use Rattle.action.specs.declared.Action.{Action}
 use Rattle.paint.proofs.Rows.{colours-long, colours-same, tags-long, tags-same}
-use Rattle.paint.proofs.Mending.{mended-all, mended-none}
+use Rattle.paint.proofs.Patching.{patched-all, patched-none}
 use Rattle.paint.proofs.Stacks.{row-stacked}
-use Rattle.paint.specs.Picture.{drawnAt, drawnBy, isMarked, mended, outlineOf, pixelOf, rowColours, rowTags, stacked}
+use Rattle.paint.specs.Picture.{drawnAt, drawnBy, isMarked, patched, outlineOf, pixelOf, rowColours, rowTags, stacked}
 use Rattle.pixel.specs.declared.Pixel.{Pixel}
 use Rattle.shape.proofs.Reaching.{none-reached}
 use Rattle.shape.specs.Cover.{reachesRow}
@@ -102,39 +102,39 @@ unmarked marks (suc n) e y l =
     last true z = absurd (omega (arith, z))
     last false z = refl
 
-pub none-mended :
+pub none-patched :
     (marks : List ℕ) (row : ℕ → List ℕ) (wide : ℕ) (lent : List ℕ) → marked marks (length marks) ≡ 0 → length lent ≡ length marks * wide →
-    lent ≡ mended marks row wide lent
-none-mended marks row wide lent none long = sym (mended-none marks row wide lent (unmarked marks (length marks) none) long)
+    lent ≡ patched marks row wide lent
+none-patched marks row wide lent none long = sym (patched-none marks row wide lent (unmarked marks (length marks) none) long)
 
 -- A FRAME that held the old list's rows holds the new list's
 module _ (memory : List ℕ) (old new : List Action) (width height : ℕ) (marks : List ℕ) (m : Marks old new width height marks) where
   carried :
       (oldRow newRow : ℕ → List ℕ) (wide : ℕ) → ((y : ℕ) → length (oldRow y) ≡ wide) →
-      ((y : ℕ) → reaching width y old ≡ reaching width y new → oldRow y ≡ newRow y) → mended marks newRow wide (stacked oldRow height) ≡ stacked newRow height
+      ((y : ℕ) → reaching width y old ≡ reaching width y new → oldRow y ≡ newRow y) → patched marks newRow wide (stacked oldRow height) ≡ stacked newRow height
   carried oldRow newRow wide long same =
-      mended-all marks newRow wide (stacked oldRow height)
+      patched-all marks newRow wide (stacked oldRow height)
       (λ y l e.
       let h : y < height = omega (arith, m .long) in
       row-stacked oldRow wide height (λ i k. long i) y h ∙ same y (mark-off (m .each y h) e))
       ∙ ap (stacked newRow) (m .long)
 
   pub colours-carried :
-      mended marks (rowColours memory new width) (3 * width) (stacked (rowColours memory old width) height) ≡ stacked (rowColours memory new width) height
+      patched marks (rowColours memory new width) (3 * width) (stacked (rowColours memory old width) height) ≡ stacked (rowColours memory new width) height
   colours-carried =
       carried (rowColours memory old width) (rowColours memory new width) (3 * width)
       (λ y. colours-long (pixelOf memory old y) width)
       (λ y e. same-rows memory old new width y e .0)
 
-  pub tags-carried : mended marks (rowTags memory new width) width (stacked (rowTags memory old width) height) ≡ stacked (rowTags memory new width) height
+  pub tags-carried : patched marks (rowTags memory new width) width (stacked (rowTags memory old width) height) ≡ stacked (rowTags memory new width) height
   tags-carried =
       carried (rowTags memory old width) (rowTags memory new width) width
       (λ y. tags-long (pixelOf memory old y) width)
       (λ y e. same-rows memory old new width y e .1)
 
 -- where the two lists are one, every byte stays
-pub mended-itself :
+pub patched-itself :
     {actions : List Action} {width height : ℕ} {marks : List ℕ} → Marks actions actions width height marks →
-    (row : ℕ → List ℕ) (wide : ℕ) (lent : List ℕ) → length lent ≡ height * wide → mended marks row wide lent ≡ lent
-mended-itself {height} {marks} m row wide lent e =
-    mended-none marks row wide lent (λ y l. rw (mark-none (m .each y (omega (arith, m .long))))) (e ∙ ap (λ (n : ℕ). n * wide) (sym (m .long)))
+    (row : ℕ → List ℕ) (wide : ℕ) (lent : List ℕ) → length lent ≡ height * wide → patched marks row wide lent ≡ lent
+patched-itself {height} {marks} m row wide lent e =
+    patched-none marks row wide lent (λ y l. rw (mark-none (m .each y (omega (arith, m .long))))) (e ∙ ap (λ (n : ℕ). n * wide) (sym (m .long)))

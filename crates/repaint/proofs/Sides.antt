@@ -13,11 +13,11 @@ use Rattle.action.specs.Same.{Tells}
 use Rattle.action.specs.declared.Action.{Action}
 use Rattle.engine.specs.declared.run.Find.{Find}
 use Rattle.engine.specs.declared.run.Find.the-variants as f
+use Rattle.engine.specs.declared.run.Stop.{Stop}
 use Rattle.paint.specs.Actions.{Bands}
 use Rattle.paint.specs.Picture.{outlineOf}
 use Rattle.shape.proofs.Reaching.{row-by-none}
-use Rattle.shape.specs.OneRow.{larger, smaller}
-use Rattle.units.specs.Units.{pixelAt}
+use Rattle.units.specs.Units.{larger, pixelAt, smaller, tallest, widest}
 use Rattle.repaint.specs.Repaint.{reaching}
 use Rattle.repaint.specs.Rows.{Alike, Bounded, Compares, Passes, Stood, Touches, Turns, beside, here, isDrawn, later, meetsRow, paceOf, passed, reachesAt, standing, withRest}
 use Rattle.repaint.specs.declared.compare.Pace.{Pace}
@@ -58,9 +58,9 @@ both-met :
 unfolding here meetsRow withRest
 both-met width y (f.Drew a) (f.Drew b) p q apart r s e =
     apart (ap (λ (x : Action). x ∷ []) (head-eq-of-cons-eq (sym (reach-in width y a p r) ∙ e ∙ reach-in width y b q s)))
-both-met width y (f.Drew a) (f.Over n i) p q apart r s e = cons-ne-nil a _ (sym (reach-in width y a p r) ∙ e ∙ reach-none width y)
-both-met width y (f.Over n i) (f.Drew b) p q apart r s e = cons-ne-nil b _ (sym (reach-in width y b q s) ∙ sym e ∙ reach-none width y)
-both-met width y (f.Over n i) (f.Over m j) p q apart r s e = apart refl
+both-met width y (f.Drew a) (f.Over stop) p q apart r s e = cons-ne-nil a _ (sym (reach-in width y a p r) ∙ e ∙ reach-none width y)
+both-met width y (f.Over stop) (f.Drew b) p q apart r s e = cons-ne-nil b _ (sym (reach-in width y b q s) ∙ sym e ∙ reach-none width y)
+both-met width y (f.Over one) (f.Over other) p q apart r s e = apart refl
 
 -- a list that goes on past what tells nothing of a row
 past :
@@ -69,10 +69,10 @@ past :
 unfolding isDrawn meetsRow passed withRest
 past width y false find p drawn off = refl
 past width y true (f.Drew a) p drawn off = sym (reach-out width y a p (sym (and-true (reachesAt a width y)) ∙ off))
-past width y true (f.Over n i) p drawn off = never (drawn refl)
+past width y true (f.Over stop) p drawn off = never (drawn refl)
 
 -- a row outside of the bounds is not met
-bounded-by : (find : Find) (top bottom : ℕ) → Bounded find top bottom → (width y : ℕ) → width ≤ 800 → y < 600 → (y < top) ⊎ (bottom ≤ y) → meetsRow find width y ≡ false
+bounded-by : (find : Find) (top bottom : ℕ) → Bounded find top bottom → (width y : ℕ) → width ≤ widest → y < tallest → (y < top) ⊎ (bottom ≤ y) → meetsRow find width y ≡ false
 bounded-by find top bottom b width y w h off =
     not-so _ (λ e. let i = b width y w h e in ⊎-elim (λ (l : y < top). absurd (omega (arith, l, i .0))) (λ (l : bottom ≤ y). absurd (omega (arith, l, i .1))) off)
 
@@ -93,8 +93,8 @@ band-bounds a top bottom bands width y w h e = go (leb top y && ltb y bottom) re
         never (sym t ∙ rw (le-leb top y (b .0), lt-ltb y bottom (b .1))))))
         ∙ e)
 
-pub over-bounds : (number place : ℕ) → Bounded (f.Over number place) 0 600
-over-bounds number place width y w h e = (omega arith, h)
+pub over-bounds : (stop : Stop) → Bounded (f.Over stop) 0 tallest
+over-bounds stop width y w h e = (omega arith, h)
 
 -- a step touches no row outside of the bounds of what is passed
 module _ (old new : Find) (pace : Pace) where
@@ -119,7 +119,7 @@ module _ (old new : Find) (pace : Pace) where
 not-met : (find : Find) (width y : ℕ) → not (meetsRow find width y) ≡ true → isDrawn find ≡ true
 unfolding isDrawn meetsRow
 not-met (f.Drew a) width y e = refl
-not-met (f.Over n i) width y e = never e
+not-met (f.Over stop) width y e = never e
 
 module _ (old new : Find) (p q width y : ℕ) where
   pub pace-old : paceOf old new p q width y .old ≡ true → isDrawn old ≡ true
@@ -247,15 +247,15 @@ same-passed width y (f.Drew a) (f.Drew b) e d =
       onwards = λ i z p q k. both-passed width y a p q (k ∙ rw s);
       back = λ i z p q k. both-returned width y a p q k ∙ rw s;
     }
-same-passed width y (f.Drew a) (f.Over n i) e d = absurd (cons-ne-nil a [] e)
-same-passed width y (f.Over n i) new e d = never d
+same-passed width y (f.Drew a) (f.Over stop) e d = absurd (cons-ne-nil a [] e)
+same-passed width y (f.Over stop) new e d = never d
 
 -- both lists have ended
 pub both-over : (width y : ℕ) (old new : Find) {m m′ : ℕ} → here old ≡ here new → isDrawn old ≡ false → (m ≡ beside → m′ ≡ 0) → ((m ≡ beside → ⊥) → m′ ≡ m) → Passes width y old new (record { old = false; new = false }) m m′
 unfolding here isDrawn passed withRest
 both-over width y (f.Drew a) new e d z o = never (sym d)
-both-over width y (f.Over n i) (f.Drew b) e d z o = absurd (cons-ne-nil b [] (sym e))
-both-over width y (f.Over n i) (f.Over l j) e d z o = record {
+both-over width y (f.Over stop) (f.Drew b) e d z o = absurd (cons-ne-nil b [] (sym e))
+both-over width y (f.Over one) (f.Over other) e d z o = record {
   others = o;
   known = λ b. omega (arith, z b);
   alike = λ b k p q. refl;
@@ -270,23 +270,23 @@ pub tell-drawn : (a b : Action) {r : Bool} → Tells r (a ≡ b) → Tells r (he
 unfolding here
 tell-drawn a b t = record { holds = λ e. ap (λ (x : Action). x ∷ []) (t .holds e); told = λ e. t .told (same-action a b e) }
 
-pub tell-left : (a : Action) (n i : ℕ) → Tells false (here (f.Drew a) ≡ here (f.Over n i))
+pub tell-left : (a : Action) (stop : Stop) → Tells false (here (f.Drew a) ≡ here (f.Over stop))
 unfolding here
-tell-left a n i = record { holds = λ e. never e; told = λ e. absurd (cons-ne-nil a [] e) }
+tell-left a stop = record { holds = λ e. never e; told = λ e. absurd (cons-ne-nil a [] e) }
 
-pub tell-right : (n i : ℕ) (b : Action) → Tells false (here (f.Over n i) ≡ here (f.Drew b))
+pub tell-right : (stop : Stop) (b : Action) → Tells false (here (f.Over stop) ≡ here (f.Drew b))
 unfolding here
-tell-right n i b = record { holds = λ e. never e; told = λ e. absurd (cons-ne-nil b [] (sym e)) }
+tell-right stop b = record { holds = λ e. never e; told = λ e. absurd (cons-ne-nil b [] (sym e)) }
 
-pub tell-over : (n i m j : ℕ) → Tells true (here (f.Over n i) ≡ here (f.Over m j))
+pub tell-over : (s t : Stop) → Tells true (here (f.Over s) ≡ here (f.Over t))
 unfolding here
-tell-over n i m j = record { holds = λ e. refl; told = λ e. refl }
+tell-over s t = record { holds = λ e. refl; told = λ e. refl }
 
 drawn-too : (old new : Find) → here old ≡ here new → isDrawn old ≡ true → isDrawn new ≡ true
 unfolding here isDrawn
 drawn-too (f.Drew a) (f.Drew b) e d = refl
-drawn-too (f.Drew a) (f.Over n i) e d = absurd (cons-ne-nil a [] e)
-drawn-too (f.Over n i) new e d = never d
+drawn-too (f.Drew a) (f.Over stop) e d = absurd (cons-ne-nil a [] e)
+drawn-too (f.Over stop) new e d = never d
 
 module _ {width y : ℕ} (old new : Find) {marks : List ℕ} where
   pub compare-same : here old ≡ here new → isDrawn old ≡ true → getD marks y 0 ≡ beside → Compares width y old new (record { old = true; new = true }) marks marks

@@ -1,6 +1,6 @@
 -- Which rows a repaint marks. The third demand of the order: 'Repaint marks a row exactly when the drawing actions that reach that row, in order and with
 -- the values they use, differ between the two lists.' Document 01, 'One pixel': 'They are compared by value, never by effect.' What becomes of the rows is
--- `mended` of the painter's definitions.
+-- `patched` of the painter's definitions.
 use mathlib.Core.Path.{_≡_}
 use mathlib.Core.Bool.{cond}
 use mathlib.Core.List.{List, [], _∷_}

@@ -14,7 +14,7 @@ use Rattle.engine.specs.declared.run.Find.{Find}
 use Rattle.engine.specs.declared.run.Find.the-variants as f
 use Rattle.paint.specs.Picture.{outlineOf}
 use Rattle.shape.specs.Cover.{reachesRow}
-use Rattle.units.specs.Units.{pixelAt}
+use Rattle.units.specs.Units.{pixelAt, tallest, widest}
 use Rattle.repaint.specs.Repaint.{reaching}
 use Rattle.repaint.specs.declared.compare.Pace.{Pace}
 
@@ -28,15 +28,15 @@ Alike width y old new = reaching width y old ≡ reaching width y new
 -- WHAT A RUN CAME TO: an action, or the end. What is left of its actions where it goes on, and where it does not
 unfoldable pub isDrawn : Find → Bool
 isDrawn (f.Drew a) = true
-isDrawn (f.Over number place) = false
+isDrawn (f.Over stop) = false
 
 unfoldable pub here : Find → List Action
 here (f.Drew a) = a ∷ []
-here (f.Over number place) = []
+here (f.Over stop) = []
 
 unfoldable pub withRest : Find → List Action → List Action
 withRest (f.Drew a) rest = a ∷ rest
-withRest (f.Over number place) rest = []
+withRest (f.Over stop) rest = []
 
 unfoldable pub passed : Bool → Find → List Action → List Action
 passed true find rest = rest
@@ -45,11 +45,11 @@ passed false find rest = withRest find rest
 -- it tells something of row y
 unfoldable pub meetsRow : Find → ℕ → ℕ → Bool
 meetsRow (f.Drew a) width y = reachesAt a width y
-meetsRow (f.Over number place) width y = true
+meetsRow (f.Over stop) width y = true
 
 -- and of no row of a frame outside of these
 abbrev pub Bounded : Find → ℕ → ℕ → Type 0
-Bounded find top bottom = (width y : ℕ) → width ≤ 800 → y < 600 → meetsRow find width y ≡ true → (top ≤ y) × (y < bottom)
+Bounded find top bottom = (width y : ℕ) → width ≤ widest → y < tallest → meetsRow find width y ≡ true → (top ≤ y) × (y < bottom)
 
 -- HOW A ROW STANDS: 0 and 1 are its marks, 2 leaves it for later; where it stands beside, what has been passed of both lists is alike
 abbrev pub later : ℕ
@@ -83,7 +83,7 @@ standing old new pace = cond (old && new) 1 (cond ((old && pace .old) || (new &&
 -- outside of these rows it stands beside as before
 abbrev pub Touches : Find → Find → Pace → ℕ → ℕ → Type 0
 Touches old new pace top bottom =
-    (width y : ℕ) → width ≤ 800 → y < 600 → (y < top) ⊎ (bottom ≤ y) → standing (meetsRow old width y) (meetsRow new width y) pace ≡ beside
+    (width y : ℕ) → width ≤ widest → y < tallest → (y < top) ⊎ (bottom ≤ y) → standing (meetsRow old width y) (meetsRow new width y) pace ≡ beside
 
 pub record Stood (width : ℕ) (old new : Find) (pace : Pace) (marks marks′ : List ℕ) : Type 0 where
   pub moved :

@@ -3,10 +3,12 @@ ghost use mathlib.Core.Path.{_≡_};
 ghost use Prim.Native.Nat.{_<_, _≤_};
 ghost use lib.ListN.{length, getD};
 ghost use Rattle.action.specs.Same.{Tells};
+ghost use Rattle.units.specs.Units.{tallest, widest};
 ghost use Rattle.repaint.specs.Rows.{Bounded, Compares, Stood, Touches, Turns, beside, here, isDrawn, meetsRow, paceOf, standing};
 use engine::Find;
-use paint::reach;
-use paint::reach::Band;
+use shape::reach;
+use shape::reach::Band;
+use units::TALLEST;
 
 // How a row stands that has no mark yet, which is 0 or 1.
 pub const LATER: u8 = 2;
@@ -30,10 +32,7 @@ fn is_drawn(find: Find) -> bool
 {
     match find {
         Find::Drew(_) => true,
-        Find::Over {
-            number: _,
-            place: _,
-        } => false,
+        Find::Over(_) => false,
     }
 }
 
@@ -43,35 +42,23 @@ fn is_same(old: Find, new: Find) -> bool
     match old {
         Find::Drew(a) => match new {
             Find::Drew(b) => a.is(b),
-            Find::Over {
-                number: _,
-                place: _,
-            } => false,
+            Find::Over(_) => false,
         },
-        Find::Over {
-            number: _,
-            place: _,
-        } => match new {
+        Find::Over(_) => match new {
             Find::Drew(_) => false,
-            Find::Over {
-                number: _,
-                place: _,
-            } => true,
+            Find::Over(_) => true,
         },
     }
 }
 
 // Nothing comes any more of a list that has ended: that tells of every row, as an action does of the rows that it reaches.
 fn meets(find: Find, width: u32, y: u32) -> bool
-    requires { ⌜ (width ≤ 800) × (y < 600) ⌝ }
+    requires { ⌜ (width ≤ widest) × (y < tallest) ⌝ }
     ensures { λ r. ⌜ r ≡ meetsRow find width y ⌝ }
 {
     match find {
         Find::Drew(action) => reach::reaches(action, width, y),
-        Find::Over {
-            number: _,
-            place: _,
-        } => true,
+        Find::Over(_) => true,
     }
 }
 
@@ -80,12 +67,9 @@ fn rows_of(find: Find) -> Band
 {
     match find {
         Find::Drew(action) => reach::rows_of(action),
-        Find::Over {
-            number: _,
-            place: _,
-        } => Band {
+        Find::Over(_) => Band {
             top: 0,
-            bottom: 600,
+            bottom: TALLEST,
         },
     }
 }
@@ -93,7 +77,7 @@ fn rows_of(find: Find) -> Band
 // By row y: a list whose action reaches the row waits. Where both could go on, the one does that has more of its list ahead:
 // past words that were put in or taken out, the two then come to the same action again.
 fn choose(old: Find, new: Find, ahead: Ahead, width: u32, y: u32) -> Pace
-    requires { ⌜ (width ≤ 800) × (y < 600) ⌝ }
+    requires { ⌜ (width ≤ widest) × (y < tallest) ⌝ }
     ensures { λ r. ⌜ r ≡ paceOf old new (ahead .old) (ahead .new) width y ⌝ }
 {
     let a = meets(old, width, y);
@@ -130,16 +114,16 @@ fn touched(old: Find, new: Find, pace: Pace) -> Band
     let a = rows_of(old);
     let b = rows_of(new);
     Band {
-        top: reach::least(a.top, b.top),
-        bottom: reach::most(a.bottom, b.bottom),
+        top: units::least(a.top as u64, b.top as u64) as u32,
+        bottom: units::most(a.bottom as u64, b.bottom as u64) as u32,
     }
 }
 
 fn settle(old: Find, new: Find, pace: Pace, width: u32, from: u32, to: u32, marks: &mut [u8])
-    requires { ⌜ Touches old new pace from to × ((length (now marks) ≤ 600) × (width ≤ 800)) ⌝ }
+    requires { ⌜ Touches old new pace from to × ((length (now marks) ≤ tallest) × (width ≤ widest)) ⌝ }
     ensures { λ _. ⌜ Stood width old new pace (now (marks .entry)) (now (marks .exit)) ⌝ }
 {
-    let end = reach::least(to, marks.len() as u32) as usize;
+    let end = units::least(to as u64, marks.len() as u64) as usize;
     let mut y = from as usize;
     while y < end {
         if marks[y] == BESIDE {
@@ -166,7 +150,7 @@ pub fn turn(marks: &mut [u8], was: u8, then: u8)
 
 // Row y stands beside, and is not left for later.
 pub fn compare(old: Find, new: Find, ahead: Ahead, width: u32, y: u32, marks: &mut [u8]) -> Pace
-    requires { ⌜ ((y < length (now marks)) × (getD (now marks) y 0 ≡ beside)) × ((length (now marks) ≤ 600) × (width ≤ 800)) ⌝ }
+    requires { ⌜ ((y < length (now marks)) × (getD (now marks) y 0 ≡ beside)) × ((length (now marks) ≤ tallest) × (width ≤ widest)) ⌝ }
     ensures { λ r. ⌜ Compares width y old new r (now (marks .entry)) (now (marks .exit)) ⌝ }
 {
     if is_same(old, new) {

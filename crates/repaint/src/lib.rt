@@ -8,8 +8,10 @@
 ghost use mathlib.Core.Path.{_≡_};
 ghost use Prim.Native.Nat.{_+_, _<_, _≤_, _*_, _^_};
 ghost use lib.ListN.{length};
-ghost use Rattle.engine.specs.Run.{run, atStart};
-ghost use Rattle.paint.specs.Picture.{mended, rowColours, rowTags};
+ghost use Rattle.engine.specs.Run.{WithinLimits, actionsOf, mostList};
+ghost use Rattle.paint.specs.Picture.{patched, rowColours, rowTags};
+ghost use Rattle.paint.specs.Runs.{HoldRows};
+ghost use Rattle.units.specs.Units.{tallest, widest};
 ghost use Rattle.repaint.specs.Repaint.{Marks, marked};
 ghost use Rattle.repaint.specs.Rows.{Begins, GoesOn, Seeks, Walks};
 
@@ -22,14 +24,20 @@ use engine::Advanced;
 use engine::Engine;
 
 fn sum(length: usize, place: u32) -> u64
-    requires { ⌜ length ≤ 8192 ⌝ }
+    requires { ⌜ length ≤ mostList ⌝ }
     ensures { λ r. ⌜ r ≡ length + place ⌝ }
 {
     length as u64 + place as u64
 }
 
-fn go_on(goes: bool, at: Advanced, handles: &mut [u32; 512], list: &[u8], memory: u32) -> Advanced
-    requires { ⌜ (length (now list) ≤ 8192) × (memory ≤ 2 ^ 20) ⌝ }
+fn go_on(
+    goes: bool,
+    at: Advanced,
+    handles: &mut [u32; engine::SETTINGS],
+    list: &[u8],
+    memory: u32,
+) -> Advanced
+    requires { ⌜ WithinLimits (now list) memory ⌝ }
     ensures { λ r. ⌜ GoesOn (now (list .entry)) memory goes at (now (handles .entry)) r (now (handles .exit)) ⌝ }
 {
     if goes {
@@ -41,7 +49,7 @@ fn go_on(goes: bool, at: Advanced, handles: &mut [u32; 512], list: &[u8], memory
 
 // The first row from y on that stands so, or the number of rows.
 fn seek(marks: &[u8], y: u32, stand: u8) -> u32
-    requires { ⌜ (y ≤ length (now marks)) × (length (now marks) ≤ 600) ⌝ }
+    requires { ⌜ (y ≤ length (now marks)) × (length (now marks) ≤ tallest) ⌝ }
     ensures { λ r. ⌜ Seeks (now (marks .entry)) y stand r ⌝ }
 {
     let mut row = y;
@@ -57,12 +65,12 @@ fn seek(marks: &[u8], y: u32, stand: u8) -> u32
 // Goes once through both lists. Each row that stands beside is settled or left for later; row y is the first of them, and
 // decides which list goes on until it is settled, then the next that still stands beside.
 fn walk(old: &[u8], new: &[u8], memory: u32, limit: u32, width: u32, y: u32, marks: &mut [u8])
-    requires { ⌜ (length (now old) ≤ 8192) × ((length (now new) ≤ 8192) × (memory ≤ 2 ^ 20)) ⌝ }
-    requires { ⌜ ((length (now marks) ≤ 600) × (width ≤ 800)) × Begins (run (now old) memory limit atStart .actions) (run (now new) memory limit atStart .actions) width y (now marks) ⌝ }
-    ensures { λ _. ⌜ Walks (run (now (old .entry)) memory limit atStart .actions) (run (now (new .entry)) memory limit atStart .actions) width y (now (marks .entry)) (now (marks .exit)) ⌝ }
+    requires { ⌜ (length (now old) ≤ mostList) × WithinLimits (now new) memory ⌝ }
+    requires { ⌜ ((length (now marks) ≤ tallest) × (width ≤ widest)) × Begins (actionsOf (now old) memory limit) (actionsOf (now new) memory limit) width y (now marks) ⌝ }
+    ensures { λ _. ⌜ Walks (actionsOf (now (old .entry)) memory limit) (actionsOf (now (new .entry)) memory limit) width y (now (marks .entry)) (now (marks .exit)) ⌝ }
 {
-    let mut old_handles = [0; 512];
-    let mut new_handles = [0; 512];
+    let mut old_handles = [0; engine::SETTINGS];
+    let mut new_handles = [0; engine::SETTINGS];
     let start = Engine::start();
     let mut old_run = engine::advance(start, &mut old_handles, old, memory, limit, true);
     let mut new_run = engine::advance(start, &mut new_handles, new, memory, limit, true);
@@ -85,9 +93,9 @@ fn walk(old: &[u8], new: &[u8], memory: u32, limit: u32, width: u32, y: u32, mar
 
 // Marks each row, 1 if it differs and 0 if not.
 fn mark(old: &[u8], new: &[u8], memory: u32, limit: u32, width: u32, marks: &mut [u8])
-    requires { ⌜ (length (now old) ≤ 8192) × ((length (now new) ≤ 8192) × (memory ≤ 2 ^ 20)) ⌝ }
-    requires { ⌜ (length (now marks) ≤ 600) × (width ≤ 800) ⌝ }
-    ensures { λ _. ⌜ Marks (run (now (old .entry)) memory limit atStart .actions) (run (now (new .entry)) memory limit atStart .actions) width (length (now (marks .entry))) (now (marks .exit)) ⌝ }
+    requires { ⌜ (length (now old) ≤ mostList) × WithinLimits (now new) memory ⌝ }
+    requires { ⌜ (length (now marks) ≤ tallest) × (width ≤ widest) ⌝ }
+    ensures { λ _. ⌜ Marks (actionsOf (now (old .entry)) memory limit) (actionsOf (now (new .entry)) memory limit) width (length (now (marks .entry))) (now (marks .exit)) ⌝ }
 {
     runs::flood(marks, LATER);
     let height = marks.len() as u32;
@@ -100,7 +108,7 @@ fn mark(old: &[u8], new: &[u8], memory: u32, limit: u32, width: u32, marks: &mut
 }
 
 fn count(marks: &[u8]) -> u32
-    requires { ⌜ length (now marks) ≤ 600 ⌝ }
+    requires { ⌜ length (now marks) ≤ tallest ⌝ }
     ensures { λ r. ⌜ r ≡ marked (now (marks .entry)) (length (now (marks .entry))) ⌝ }
 {
     let mut rows: u32 = 0;
@@ -125,11 +133,22 @@ pub fn repaint(
     tags: &mut [u8],
     marks: &mut [u8],
 ) -> u32
-    requires { ⌜ (length (now old) ≤ 8192) × ((length (now new) ≤ 8192) × (length (now memory) ≤ 2 ^ 20)) ⌝ }
-    requires { ⌜ (length (now marks) ≤ 600) × ((width ≤ 800) × ((length (now picture) ≡ length (now marks) * (3 * width)) × (length (now tags) ≡ length (now marks) * width))) ⌝ }
-    ensures { λ _. ⌜ Marks (run (now (old .entry)) (length (now (memory .entry))) limit atStart .actions) (run (now (new .entry)) (length (now (memory .entry))) limit atStart .actions) width (length (now (marks .entry))) (now (marks .exit)) ⌝ }
-    ensures { λ _. ⌜ now (picture .exit) ≡ mended (now (marks .exit)) (rowColours (now (memory .entry)) (run (now (new .entry)) (length (now (memory .entry))) limit atStart .actions) width) (3 * width) (now (picture .entry)) ⌝ }
-    ensures { λ _. ⌜ now (tags .exit) ≡ mended (now (marks .exit)) (rowTags (now (memory .entry)) (run (now (new .entry)) (length (now (memory .entry))) limit atStart .actions) width) width (now (tags .entry)) ⌝ }
+    requires { ⌜ (length (now old) ≤ mostList) × WithinLimits (now new) (length (now memory)) ⌝ }
+    requires { ⌜ (length (now marks) ≤ tallest) × HoldRows width (length (now marks)) (now picture) (now tags) ⌝ }
+    ensures { λ _. ⌜ Marks
+        (actionsOf (now (old .entry)) (length (now (memory .entry))) limit)
+        (actionsOf (now (new .entry)) (length (now (memory .entry))) limit)
+        width
+        (length (now (marks .entry)))
+        (now (marks .exit)) ⌝ }
+    ensures { λ _. ⌜ now (picture .exit) ≡ patched (now (marks .exit))
+        (rowColours (now (memory .entry)) (actionsOf (now (new .entry)) (length (now (memory .entry))) limit) width)
+        (3 * width)
+        (now (picture .entry)) ⌝ }
+    ensures { λ _. ⌜ now (tags .exit) ≡ patched (now (marks .exit))
+        (rowTags (now (memory .entry)) (actionsOf (now (new .entry)) (length (now (memory .entry))) limit) width)
+        width
+        (now (tags .entry)) ⌝ }
     ensures { λ r. ⌜ r ≡ marked (now (marks .exit)) (length (now (marks .entry))) ⌝ }
 {
     mark(old, new, memory.len() as u32, limit, width, marks);

@@ -1,4 +1,4 @@
-use Rattle.engine.specs.Run.{atStart, run}
+use Rattle.engine.specs.Run.{actionsOf}
 use Rattle.paint.proofs.Banding.{row-in-frame}
 use Rattle.paint.proofs.Folds.{Rest, rest-less, rest-none}
 use Rattle.paint.proofs.Going.{actionsFrom, fewer, next-action, no-action, none-allowed}
@@ -14,7 +14,7 @@ use native.Mathlib.Omega.{arith}
 use Rattle.paint.proofs.draw_list.Tie as tie
 
 abbrev Inv-loop : tie.InvT-loop
-Inv-loop list limit y memory width picture₀ tags₀ alpha₀ stencil₀ handles₀ engine₀ left₀ picture tags alpha stencil handles engine left = SameLong picture₀ tags₀ alpha₀ stencil₀ picture tags alpha stencil × Rest memory (run list (length memory) limit atStart .actions) (actionsFrom list (length memory) left engine handles) width (pixelAt y) (pixelIn picture₀ tags₀ alpha₀ stencil₀) (pixelIn picture tags alpha stencil)
+Inv-loop list limit y memory width picture₀ tags₀ alpha₀ stencil₀ handles₀ engine₀ left₀ picture tags alpha stencil handles engine left = SameLong picture₀ tags₀ alpha₀ stencil₀ picture tags alpha stencil × Rest memory (actionsOf list (length memory) limit) (actionsFrom list (length memory) left engine handles) width (pixelAt y) (pixelIn picture₀ tags₀ alpha₀ stencil₀) (pixelIn picture tags alpha stencil)
 
 abbrev μ-loop : tie.MeasureT-loop
 μ-loop list limit y memory width picture₀ tags₀ alpha₀ stencil₀ handles₀ engine₀ left₀ picture tags alpha stencil handles engine left = left
@@ -68,7 +68,7 @@ same-length-4 : tie.Need-same-length-4 Inv-loop μ-loop
 same-length-4 c = c .before .before .before .before .before .before .loop .inv .0 .stencils
 
 returns : tie.Need-returns Inv-loop μ-loop
-returns c = rest-none _ _ _ _ _ _ (rw (no-action (c .before .before .before .advance .ensures) _ _ (c .enum-told .given .1)) at (c .before .before .before .before .before .before .loop .inv .1))
+returns c = rest-none _ _ _ _ _ _ (rw (no-action (c .before .before .before .advance .ensures) _ (c .enum-told .given .1)) at (c .before .before .before .before .before .before .loop .inv .1))
 
 same-length-5 : tie.Need-same-length-5 Inv-loop μ-loop
 same-length-5 c = c .before .loop .inv .0 .pictures

@@ -1,6 +1,6 @@
 use Prim.Native.Nat.{_*_, _-_}
-use Rattle.engine.specs.Run.{atStart, run}
-use Rattle.paint.proofs.Mending.{Mending, mending-all, mending-left, mending-none, mending-painted}
+use Rattle.engine.specs.Run.{actionsOf}
+use Rattle.paint.proofs.Patching.{Patching, patching-all, patching-left, patching-none, patching-painted}
 use Rattle.paint.proofs.Rows.{colours-long, tags-long}
 use Rattle.paint.proofs.Stacks.{part-long, within}
 use Rattle.paint.proofs.paint_each_marked.Statement.{statement}
@@ -12,15 +12,15 @@ use native.Mathlib.Omega.{arith}
 use Rattle.paint.proofs.paint_each_marked.Tie as tie
 
 abbrev Inv-loop : tie.InvT-loop
-Inv-loop gathered numbers places bands list limit memory width marks picture₀ tags₀ wide y₀ a₀ b₀ picture tags y a b = Mending marks (rowColours memory (run list (length memory) limit atStart .actions) width) (3 * width) picture₀ picture y a × Mending marks (rowTags memory (run list (length memory) limit atStart .actions) width) width tags₀ tags y b
+Inv-loop gathered numbers places bands list limit memory width marks picture₀ tags₀ wide y₀ a₀ b₀ picture tags y a b = Patching marks (rowColours memory (actionsOf list (length memory) limit) width) (3 * width) picture₀ picture y a × Patching marks (rowTags memory (actionsOf list (length memory) limit) width) width tags₀ tags y b
 
 abbrev μ-loop : tie.MeasureT-loop
 μ-loop gathered numbers places bands list limit memory width marks picture₀ tags₀ wide y₀ a₀ b₀ picture tags y a b = length marks - y
 
 loop-holds : tie.Need-loop-holds Inv-loop μ-loop
 loop-holds c = let p = c .before .before .before .before .before .before .before .before .pre .1 .1 .1 .1 in (
-  mending-none (λ y. colours-long _ _) (p .0),
-  mending-none (λ y. tags-long _ _) (p .1),
+  patching-none (λ y. colours-long _ _) (p .0),
+  patching-none (λ y. tags-long _ _) (p .1),
 )
 
 mul-e : tie.Need-mul-e Inv-loop μ-loop
@@ -84,10 +84,10 @@ loop-again c = let l = c .before .before .loop-test .taken in
     let v = c .before .before .before .loop .inv in
     ⊎-elim
     (λ w. (
-      rw (w .8) (mending-painted (v .0) _ l (w .0 .taken) (w .3 .ensures .0)),
-      rw (w .9) (mending-painted (v .1) _ l (w .0 .taken) (w .3 .ensures .1)),
+      rw (w .8) (patching-painted (v .0) _ l (w .0 .taken) (w .3 .ensures .0)),
+      rw (w .9) (patching-painted (v .1) _ l (w .0 .taken) (w .3 .ensures .1)),
     ))
-    (λ w. (rw (w .1) (mending-left (v .0) l (w .0 .left)), rw (w .2) (mending-left (v .1) l (w .0 .left))))
+    (λ w. (rw (w .1) (patching-left (v .0) l (w .0 .left)), rw (w .2) (patching-left (v .1) l (w .0 .left))))
     (c .if1 .came)
 
 same-length : tie.Need-same-length Inv-loop μ-loop
@@ -97,7 +97,7 @@ same-length-2 : tie.Need-same-length-2 Inv-loop μ-loop
 same-length-2 c = c .before .loop .inv .1 .filled .long ∙ sym (c .before .before .before .before .before .before .before .before .before .before .pre .1 .1 .1 .1 .1)
 
 returns : tie.Need-returns Inv-loop μ-loop
-returns c = (mending-all (c .before .loop .inv .0) (c .loop-test .left), mending-all (c .before .loop .inv .1) (c .loop-test .left))
+returns c = (patching-all (c .before .loop .inv .0) (c .loop-test .left), patching-all (c .before .loop .inv .1) (c .loop-test .left))
 
 pub paint-each-marked-spec : {M : Type 1} → statement M
 paint-each-marked-spec =

@@ -1,5 +1,5 @@
 use Prim.Native.Nat.{_*_, _+_, _-_}
-use Rattle.engine.specs.Run.{atStart, run}
+use Rattle.engine.specs.Run.{actionsOf}
 use Rattle.paint.proofs.Rows.{colours-long, tags-long}
 use Rattle.paint.proofs.Stacks.{Filled, filled-all, filled-more, filled-none, part-long, within}
 use Rattle.paint.proofs.paint_each_row.Statement.{statement}
@@ -10,7 +10,7 @@ use native.Mathlib.Omega.{arith}
 use Rattle.paint.proofs.paint_each_row.Tie as tie
 
 abbrev Inv-loop : tie.InvT-loop
-Inv-loop gathered numbers places bands list limit memory width first count picture₀ tags₀ wide y₀ a₀ b₀ picture tags y a b = Filled (λ y. rowColours memory (run list (length memory) limit atStart .actions) width (first + y)) (3 * width) count picture₀ picture y a × Filled (λ y. rowTags memory (run list (length memory) limit atStart .actions) width (first + y)) width count tags₀ tags y b
+Inv-loop gathered numbers places bands list limit memory width first count picture₀ tags₀ wide y₀ a₀ b₀ picture tags y a b = Filled (λ y. rowColours memory (actionsOf list (length memory) limit) width (first + y)) (3 * width) count picture₀ picture y a × Filled (λ y. rowTags memory (actionsOf list (length memory) limit) width (first + y)) width count tags₀ tags y b
 
 abbrev μ-loop : tie.MeasureT-loop
 μ-loop gathered numbers places bands list limit memory width first count picture₀ tags₀ wide y₀ a₀ b₀ picture tags y a b = count - y

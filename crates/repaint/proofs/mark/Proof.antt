@@ -3,14 +3,14 @@ use Prim.Native.Nat.{_-_}
 use native.Mathlib.Omega.{arith}
 use borrow.Author.Needs.{needs}
 use lib.ListN.{length}
-use Rattle.engine.specs.Run.{atStart, run}
+use Rattle.engine.specs.Run.{actionsOf}
 use Rattle.repaint.proofs.Walking.{Rounds, rounds-begin, rounds-end, rounds-less, rounds-next, rounds-start}
 use Rattle.repaint.proofs.mark.Statement.{statement}
 use Rattle.repaint.proofs.mark.Tie as tie
 
 abbrev Inv-loop : tie.InvT-loop
 Inv-loop old new memory limit width marks₀ height y₀ marks y =
-    Rounds (run old memory limit atStart .actions) (run new memory limit atStart .actions) width (length marks₀) marks y
+    Rounds (actionsOf old memory limit) (actionsOf new memory limit) width (length marks₀) marks y
 
 abbrev μ-loop : tie.MeasureT-loop
 μ-loop old new memory limit width marks₀ height y₀ marks y = length marks₀ - y

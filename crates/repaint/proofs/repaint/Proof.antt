@@ -1,6 +1,6 @@
 use native.Mathlib.Omega.{arith}
 use borrow.Author.Needs.{needs}
-use Rattle.repaint.proofs.Settling.{none-mended}
+use Rattle.repaint.proofs.Settling.{none-patched}
 use Rattle.repaint.proofs.repaint.Statement.{statement}
 use Rattle.repaint.proofs.repaint.Tie as tie
 
@@ -43,8 +43,8 @@ returns-2 c =
     let rows = c .before .count .ensures in (
       marks,
       (
-        none-mended _ _ _ _ (omega (arith, rows, c .if1 .left)) (rw (marks .long) (p .0)),
-        (none-mended _ _ _ _ (omega (arith, rows, c .if1 .left)) (rw (marks .long) (p .1)), rw (marks .long) at rows),
+        none-patched _ _ _ _ (omega (arith, rows, c .if1 .left)) (rw (marks .long) (p .0)),
+        (none-patched _ _ _ _ (omega (arith, rows, c .if1 .left)) (rw (marks .long) (p .1)), rw (marks .long) at rows),
       ),
     )
 

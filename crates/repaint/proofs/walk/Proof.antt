@@ -2,7 +2,7 @@ use mathlib.Core.Logic.{⊎-elim}
 use Prim.Native.Nat.{_+_, _-_}
 use native.Mathlib.Omega.{arith}
 use lib.ListN.{length}
-use Rattle.engine.specs.Run.{atStart, run}
+use Rattle.engine.specs.Run.{actionsOf}
 use Rattle.repaint.specs.Rows.{ahead, weight}
 use Rattle.repaint.proofs.Runs.{less-ahead, not-heavier, went-on}
 use Rattle.repaint.proofs.Walking.{Walking, seek-past, walking-end, walking-next, walking-start}
@@ -11,7 +11,7 @@ use Rattle.repaint.proofs.walk.Tie as tie
 
 abbrev Inv-loop : tie.InvT-loop
 Inv-loop old new memory limit width y marks₀ old-handles₀ new-handles₀ old-run₀ new-run₀ height row₀ marks old-handles new-handles old-run new-run row =
-    Walking (run old memory limit atStart .actions) (run new memory limit atStart .actions) width y marks₀ (ahead old memory old-run old-handles) (ahead new memory new-run new-handles) marks row
+    Walking (actionsOf old memory limit) (actionsOf new memory limit) width y marks₀ (ahead old memory old-run old-handles) (ahead new memory new-run new-handles) marks row
 
 abbrev μ-loop : tie.MeasureT-loop
 μ-loop old new memory limit width y marks₀ old-handles₀ new-handles₀ old-run₀ new-run₀ height row₀ marks old-handles new-handles old-run new-run row =

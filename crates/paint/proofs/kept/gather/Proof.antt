@@ -1,6 +1,6 @@
 use Prim.Native.Nat.{_-_, _≤_, zero-le}
 use Rattle.action.specs.declared.Action.{Action}
-use Rattle.engine.specs.Run.{atStart, run}
+use Rattle.engine.specs.Run.{actionsOf}
 use Rattle.paint.proofs.Folds.{keeps-bands, kept-none}
 use Rattle.paint.proofs.Going.{Gathering, joined, next-action, no-action}
 use Rattle.paint.proofs.kept.gather.Statement.{statement}
@@ -14,10 +14,10 @@ use native.Mathlib.Omega.{arith}
 use Rattle.paint.proofs.kept.gather.Tie as tie
 
 abbrev Inv-loop : tie.InvT-loop
-Inv-loop list memory limit numbers₀ places₀ bands₀ handles₀ engine₀ left₀ count₀ numbers places bands handles engine left count = (count ≤ 1024) × Gathering list memory (run list memory limit atStart .actions) handles numbers places bands engine left count
+Inv-loop list memory limit numbers₀ places₀ bands₀ handles₀ engine₀ left₀ count₀ numbers places bands handles engine left count = (count ≤ most) × Gathering list memory (actionsOf list memory limit) handles numbers places bands engine left count
 
 abbrev μ-loop : tie.MeasureT-loop
-μ-loop list memory limit numbers₀ places₀ bands₀ handles₀ engine₀ left₀ count₀ numbers places bands handles engine left count = 1024 - count
+μ-loop list memory limit numbers₀ places₀ bands₀ handles₀ engine₀ left₀ count₀ numbers places bands handles engine left count = most - count
 
 start-requires : tie.Need-start-requires Inv-loop μ-loop
 start-requires c κs = tt
@@ -55,7 +55,7 @@ returns c = let v = c .before .before .before .before .before .before .loop .inv
       whole =
           λ _. v .1 .parts
           ∙ ap (λ (t : List Action). keptUpTo (c .before .before .before .before .before .before .loop .numbers) (c .before .before .before .before .before .before .loop .places) (c .before .before .before .before .before .before .loop .count) ++ t)
-          (no-action (c .before .before .before .advance .ensures) _ _ (c .enum-told .given .1))
+          (no-action (c .before .before .before .advance .ensures) _ (c .enum-told .given .1))
           ∙ append-nil _;
       banded = v .1 .banded;
       room = v .0;

@@ -6,10 +6,10 @@ use native.Mathlib.Omega.{arith}
 use Rattle.paint.proofs.row.ink_columns.Tie as tie
 
 abbrev Inv-loop : tie.InvT-loop
-Inv-loop stretch brush q memory picture₀ tags₀ alpha₀ stencil₀ x₀ picture tags alpha stencil x = Sweeps (stretch .from) (stretch .to) (held (stretch .chord) (inked memory brush q)) picture₀ tags₀ alpha₀ stencil₀ picture tags alpha stencil x
+Inv-loop stretch coat q memory picture₀ tags₀ alpha₀ stencil₀ x₀ picture tags alpha stencil x = Sweeps (stretch .from) (stretch .to) (held (stretch .chord) (inked memory coat q)) picture₀ tags₀ alpha₀ stencil₀ picture tags alpha stencil x
 
 abbrev μ-loop : tie.MeasureT-loop
-μ-loop stretch brush q memory picture₀ tags₀ alpha₀ stencil₀ x₀ picture tags alpha stencil x = stretch .to - x
+μ-loop stretch coat q memory picture₀ tags₀ alpha₀ stencil₀ x₀ picture tags alpha stencil x = stretch .to - x
 
 loop-holds : tie.Need-loop-holds Inv-loop μ-loop
 loop-holds c = sweeps-none _ _ _ _ _ _ _

@@ -28,13 +28,13 @@ returns : tie.Need-returns
 returns c = rw (c .before .before .before .before .before .old .given .1, c .before .before .new .given .1) (tell-drawn _ _ (c .is .ensures))
 
 returns-2 : tie.Need-returns-2
-returns-2 c = rw (c .before .before .before .old .given .1, c .enum-told .given .1) (tell-left _ _ _)
+returns-2 c = rw (c .before .before .before .old .given .1, c .enum-told .given .1) (tell-left _ _)
 
 returns-3 : tie.Need-returns-3
-returns-3 c = rw (c .before .before .enum-told2 .given .1, c .enum-told3 .given .1) (tell-right _ _ _)
+returns-3 c = rw (c .before .before .enum-told2 .given .1, c .enum-told3 .given .1) (tell-right _ _)
 
 returns-4 : tie.Need-returns-4
-returns-4 c = rw (c .before .before .enum-told2 .given .1, c .enum-told4 .given .1) (tell-over _ _ _ _)
+returns-4 c = rw (c .before .before .enum-told2 .given .1, c .enum-told4 .given .1) (tell-over _ _)
 
 pub is-same-spec : {M : Type 1} → statement M
 is-same-spec =

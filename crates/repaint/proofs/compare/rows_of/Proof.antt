@@ -16,7 +16,7 @@ returns : tie.Need-returns
 returns c = rw (c .before .before .find .given .1) (band-bounds _ _ _ (c .rows-of .ensures))
 
 returns-2 : tie.Need-returns-2
-returns-2 c = rw (c .enum-told .given .1) (over-bounds _ _)
+returns-2 c = rw (c .enum-told .given .1) (over-bounds _)
 
 pub rows-of-spec : {M : Type 1} → statement M
 rows-of-spec =
