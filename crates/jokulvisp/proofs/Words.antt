@@ -1,4 +1,4 @@
--- jv_read_word and jv_write_word: no second answer fits, and reading what was written gives the same numbers.
+-- jv_read_word and jv_write_word: no second answer fits, and one undoes the other.
 -- Assumes nothing.
 use Prim.Native.Nat.{ℕ}
 use mathlib.Core.Path.{_≡_, refl, sym, ap, _∙_}
@@ -8,11 +8,12 @@ use Rattle.words.specs.declared.telling.Spelt.{Spelt}
 use Rattle.words.specs.declared.telling.Spelt.the-variants as t
 use Rattle.words.specs.declared.writing.Written.{Written}
 use Rattle.words.specs.declared.writing.Written.the-variants as o
-use Rattle.words.specs.Words.{spellWord, writeSpelling, cleared}
+use Rattle.words.specs.Words.{spellWord, writeSpelling}
 use Rattle.words.proofs.Round.{spell-written, write-spelt}
 use Rattle.jokulvisp.specs.declared.JvBits.{JvBits}
 use Rattle.jokulvisp.specs.declared.JvWord.{JvWord}
-use Rattle.jokulvisp.specs.Words.{wordTold, readTold, writtenTold, ReadAnswer, WriteAnswer}
+use Rattle.jokulvisp.specs.RoundTrips.{numbersIn, RoundTrips}
+use Rattle.jokulvisp.specs.Words.{readTold, writtenTold, ReadAnswer, WriteAnswer}
 
 -- NO SECOND ANSWER FITS.
 
@@ -34,33 +35,27 @@ pub write-answer : (s : Spelling) (made : Written) (answer : JvBits) → made �
 unfolding WriteAnswer
 write-answer s made answer e h = h ∙ ap writtenTold e
 
--- WRITTEN, THEN READ. Where jv_write_word answers 0, jv_read_word answers for its bits 0 and the six numbers that were written.
+-- THE ROUND TRIPS.
 
 bits-of : (q : Written) → writtenTold q .number ≡ 0 → q ≡ o.Bits (writtenTold q .bits)
 bits-of (o.Bits n) h = refl
 bits-of o.NoCommand h = absurd (omega arith)
 bits-of o.NoMeaning h = absurd (omega arith)
 
-pub written-then-read : (s : Spelling) (p : JvBits) (q : JvWord) → WriteAnswer s p → p .number ≡ 0 → ReadAnswer (p .bits) q → q ≡ wordTold 0 s
-unfolding WriteAnswer ReadAnswer
-written-then-read s p q w z h = h ∙ ap readTold (spell-written s (p .bits) kept)
-  where
-    kept : writeSpelling s ≡ o.Bits (p .bits)
-    kept = bits-of (writeSpelling s) (sym (ap (λ (x : JvBits). x .number) w) ∙ z) ∙ ap o.Bits (sym (ap (λ (x : JvBits). x .bits) w))
-
--- READ, THEN WRITTEN. Where jv_read_word answers 0, jv_write_word answers for its numbers 0 and the word with its reserved bits cleared.
-
-abbrev pub asked : JvWord → Spelling
-asked p = record { 0 = p .command; 1 = p .a; 2 = p .b; 3 = p .c; 4 = p .d; 5 = p .e }
-
-fields-of : (q : Spelt) → readTold q .number ≡ 0 → q ≡ t.Fields (asked (readTold q))
+fields-of : (q : Spelt) → readTold q .number ≡ 0 → q ≡ t.Fields (numbersIn (readTold q))
 fields-of (t.Fields s) h = refl
 fields-of t.NoCommand h = absurd (omega arith)
 fields-of t.NoMeaning h = absurd (omega arith)
 
-pub read-then-written : (bits : ℕ) (p : JvWord) (q : JvBits) → ReadAnswer bits p → p .number ≡ 0 → WriteAnswer (asked p) q → q ≡ record { number = 0; bits = cleared bits }
-unfolding ReadAnswer WriteAnswer
-read-then-written bits p q h z w = w ∙ ap writtenTold (write-spelt bits (asked p) found)
+pub round-trips : RoundTrips
+unfolding WriteAnswer ReadAnswer
+round-trips = record {
+  givenBack = λ s p q w z h. h ∙ ap readTold (spell-written s (p .bits) (kept s p w z));
+  reservedCleared = λ bits p q h z w. w ∙ ap writtenTold (write-spelt bits (numbersIn p) (found bits p h z));
+}
   where
-    found : spellWord bits ≡ t.Fields (asked p)
-    found = fields-of (spellWord bits) (sym (ap (λ (x : JvWord). x .number) h) ∙ z) ∙ ap (λ (x : JvWord). t.Fields (asked x)) (sym h)
+    kept : (s : Spelling) (p : JvBits) → p ≡ writtenTold (writeSpelling s) → p .number ≡ 0 → writeSpelling s ≡ o.Bits (p .bits)
+    kept s p w z = bits-of (writeSpelling s) (sym (ap (λ (x : JvBits). x .number) w) ∙ z) ∙ ap o.Bits (sym (ap (λ (x : JvBits). x .bits) w))
+
+    found : (bits : ℕ) (p : JvWord) → p ≡ readTold (spellWord bits) → p .number ≡ 0 → spellWord bits ≡ t.Fields (numbersIn p)
+    found bits p h z = fields-of (spellWord bits) (sym (ap (λ (x : JvWord). x .number) h) ∙ z) ∙ ap (λ (x : JvWord). t.Fields (numbersIn x)) (sym h)

@@ -5,4 +5,5 @@ pub mod Examples
 pub mod Paint
 pub mod Repaint
 pub mod Ring
+pub mod RoundTrips
 pub mod Words

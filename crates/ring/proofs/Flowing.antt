@@ -8,13 +8,14 @@ use native.Mathlib.Omega.{arith}
 use lib.Dec.{eqb, leb}
 use lib.ListN.{length}
 use borrow.Author.Tests.{eqb-true, leb-true, ne-eqb}
+use Rattle.truth.specs.Must.{must}
 use Rattle.truth.proofs.Bools.{both-true, never}
 use Rattle.ring.specs.declared.marks.Marks.{Marks}
 use Rattle.ring.specs.Command.{Runs}
-use Rattle.ring.specs.Flow.{wordsIn, joined, allObeyed, Call, host, coprocessor, Site, after, written, taken, finally, all, waits, Flows}
-use Rattle.ring.specs.Host.{Put, put, must as hostMust, refused, laidAround, room, written as wroteOn}
+use Rattle.ring.specs.Flow.{wordsIn, joined, allObeyed, Call, host, coprocessor, Site, after, wordsPut, wordsTaken, finally, all, waits, Flows}
+use Rattle.ring.specs.Host.{Put, put, refused, laidAround, room, pastWords}
 use Rattle.ring.specs.Ring.{queue, waiting, arePlaces, isFree}
-use Rattle.ring.specs.Run.{Ran, run, ran, must, stopped}
+use Rattle.ring.specs.Run.{Ran, run, ran, stopped}
 use Rattle.ring.proofs.Joining.{host-queue}
 use Rattle.ring.proofs.Numbering.{ran-regular}
 use Rattle.ring.proofs.Places.{placed, waiting-most}
@@ -23,7 +24,7 @@ use Rattle.ring.proofs.Taking.{run-commands, run-most, run-queue, run-e
 
 -- THE RUN'S CALL is refused with a number that is not 0, or it is the run
 abbrev tested : Marks → Runs → Ran → Bool → Bool → Bool → Ran
-tested m x r sized places free = must sized 37 m x (must places 33 m x (must free 36 m x r))
+tested m x r sized places free = must sized (stopped 37 m x) (must places (stopped 33 m x) (must free (stopped 36 m x) r))
 
 module _ (ring : List ℕ) (m : Marks) (x : Runs) where
   ran-cases : (P : Ran → Type 0) → ((number : ℕ) → 0 < number → P (stopped number m x)) → (arePlaces m ≡ true → P (run ring 1023 m x)) → P (ran ring m x)
@@ -48,11 +49,12 @@ module _ (ring : List ℕ) (m : Marks) (x : Runs) where
 
 -- THE HOST'S CALL is refused with a number that is not 0, or its words join those that wait
 abbrev testedFor : Marks → List ℕ → Put → Bool → Bool → Bool → Bool → Put
-testedFor m ring p sized places free fits = hostMust sized 37 m ring (hostMust places 33 m ring (hostMust free 36 m ring (hostMust fits 38 m ring p)))
+testedFor m ring p sized places free fits =
+    must sized (refused 37 m ring) (must places (refused 33 m ring) (must free (refused 36 m ring) (must fits (refused 38 m ring) p)))
 
 module _ (ring bytes : List ℕ) (m : Marks) where
   abbrev done : Put
-  done = record { number = 0; marks = wroteOn m (length bytes); ring = laidAround (m .write) bytes ring }
+  done = record { number = 0; marks = pastWords m (length bytes); ring = laidAround (m .write) bytes ring }
 
   put-cases : (P : Put → Type 0) → ((number : ℕ) → 0 < number → P (refused number m ring)) →
       (length ring ≡ 4096 → length bytes % 4 ≡ 0 → arePlaces m ≡ true → length bytes ≤ room m → P done) → P (put ring bytes m)
@@ -92,20 +94,20 @@ run-takes : (ring : List ℕ) (m : Marks) (x : Runs) → queue ring m ≡ joined
 run-takes ring m x =
     ran-cases ring m x (λ r. queue ring m ≡ joined (r .commands) ++ queue ring (r .marks)) (λ number h. refl) (λ e. run-queue ring 1023 m x e)
 
-in-order : (calls : List Call) (s : Site) → waits s ++ all written calls s ≡ all taken calls s ++ waits (finally calls s)
+in-order : (calls : List Call) (s : Site) → waits s ++ all wordsPut calls s ≡ all wordsTaken calls s ++ waits (finally calls s)
 in-order [] s = append-nil (waits s)
 in-order (host bytes ∷ calls) s =
     let next = after (host bytes) s in
-    sym (append-assoc (waits s) (written (host bytes) s) (all written calls next))
-    ∙ ap (λ (l : List ℕ). l ++ all written calls next) (sym (host-joins (s .ring) bytes (s .marks)))
+    sym (append-assoc (waits s) (wordsPut (host bytes) s) (all wordsPut calls next))
+    ∙ ap (λ (l : List ℕ). l ++ all wordsPut calls next) (sym (host-joins (s .ring) bytes (s .marks)))
     ∙ in-order calls next
 in-order (coprocessor ∷ calls) s =
     let next = after coprocessor s in
-    let took = taken coprocessor s in
-    ap (λ (l : List ℕ). l ++ all written calls next) (run-takes (s .ring) (s .marks) (s .runs))
-    ∙ append-assoc took (waits next) (all written calls next)
+    let took = wordsTaken coprocessor s in
+    ap (λ (l : List ℕ). l ++ all wordsPut calls next) (run-takes (s .ring) (s .marks) (s .runs))
+    ∙ append-assoc took (waits next) (all wordsPut calls next)
     ∙ ap (λ (l : List ℕ). took ++ l) (in-order calls next)
-    ∙ sym (append-assoc took (all taken calls next) (waits (finally calls next)))
+    ∙ sym (append-assoc took (all wordsTaken calls next) (waits (finally calls next)))
 
 empty : (ring : List ℕ) (m : Marks) → waiting m ≡ 0 → queue ring m ≡ []
 unfolding queue

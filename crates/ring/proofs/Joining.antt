@@ -11,9 +11,9 @@ use Rattle.runs.specs.Runs.{wordAt, laid}
 use Rattle.runs.proofs.Laws.{laid-long, laid-inside, laid-before, laid-past}
 use Rattle.ring.specs.declared.marks.Marks.{Marks}
 use Rattle.ring.specs.Flow.{wordsIn}
-use Rattle.ring.specs.Host.{laidAround, room, written}
+use Rattle.ring.specs.Host.{laidAround, room, pastWords}
 use Rattle.ring.specs.Ring.{around, waiting, wordFrom, queue}
-use Rattle.ring.proofs.Places.{Placed, around-again, around-byte, around-within, around-past, waiting-most, waiting-whole, waiting-written, write-behind}
+use Rattle.ring.proofs.Places.{Placed, around-again, around-byte, around-within, around-past, waiting-most, waiting-whole, waiting-past-words, write-behind}
 use Rattle.ring.proofs.Taking.{each-split, each-same}
 
 same-word : (a b : List ℕ) (p q : ℕ) → ((i : ℕ) → i < 4 → getD a (p + i) 0 ≡ getD b (q + i) 0) → wordAt a p ≡ wordAt b q
@@ -110,11 +110,11 @@ module _ (ring bytes : List ℕ) {m : Marks} (p : Placed m) (r : length ring ≡
       let e : around (m .read) (4 * (waiting m / 4 + j)) ≡ around (m .write) (4 * j) = rw d (sym (write-behind p (4 * j))) in
       rw e (word-new (m .write) bytes ring (p .write-most) r (omega arith) (p .write-whole) j (omega arith))
 
-  pub host-queue : queue (laidAround (m .write) bytes ring) (written m (length bytes)) ≡ queue ring m ++ wordsIn bytes
+  pub host-queue : queue (laidAround (m .write) bytes ring) (pastWords m (length bytes)) ≡ queue ring m ++ wordsIn bytes
   unfolding queue wordsIn
   host-queue =
       let v = waiting-whole p in
-      let e : waiting (written m (length bytes)) / 4 ≡ waiting m / 4 + length bytes / 4 = omega (arith, waiting-written p (length bytes) h) in
+      let e : waiting (pastWords m (length bytes)) / 4 ≡ waiting m / 4 + length bytes / 4 = omega (arith, waiting-past-words p (length bytes) h) in
       let f = wordFrom (laidAround (m .write) bytes ring) (m .read) in
       let a = each-same f (wordFrom ring (m .read)) 0 0 (waiting m / 4) (λ k l. rw zero-add (still k l)) in
       let b = each-same f (λ k. wordAt bytes (4 * k)) (0 + waiting m / 4) 0 (length bytes / 4) (λ k l. simp zero-add (joins k l)) in

@@ -8,13 +8,13 @@ use lib.ListN.{length, take, drop, replicate, length-drop, length-replicate, dro
 use lib.Seq.{drop-drop, take-all}
 use Rattle.runs.specs.Runs.{laid, part}
 use Rattle.ring.specs.Host.{laidAround}
-use Rattle.runs.proofs.Laws.{laid-lent, laid-none, lent-part, part-long}
+use Rattle.runs.proofs.Laws.{laid-lent, laid-none, lent-part, lent-part-long, part-long}
 
 -- a part that was flooded
 pub flooded : (at count b : ℕ) (run new : List ℕ) → at + count ≤ length run → new ≡ replicate (length (take (at + count - at) (drop at run))) b
     → laid at (replicate count b) run ≡ take at run ++ (new ++ drop (at + count - at) (drop at run))
 flooded at count b run new h e =
-    let n : length (take (at + count - at) (drop at run)) ≡ count = ap length (lent-part at count run) ∙ part-long at count run h in
+    let n = lent-part-long at count run h in
     let f : new ≡ replicate count b = e ∙ ap (λ (k : ℕ). replicate k b) n in
     sym (rw f (laid-lent at count (replicate count b) run h (length-replicate count b)))
 
@@ -29,8 +29,7 @@ pub copied-over : (at count : ℕ) (run src new : List ℕ) → at + count ≤ l
     → new ≡ take (length src) src ++ drop (length src) (take (at + count - at) (drop at run))
     → laid at src run ≡ take at run ++ (new ++ drop (at + count - at) (drop at run))
 copied-over at count run src new h n e =
-    let d : length (take (at + count - at) (drop at run)) ≡ count = ap length (lent-part at count run) ∙ part-long at count run h in
-    let f : new ≡ src = e ∙ copied src (take (at + count - at) (drop at run)) (n ∙ sym d) in
+    let f : new ≡ src = e ∙ copied src (take (at + count - at) (drop at run)) (n ∙ sym (lent-part-long at count run h)) in
     sym (rw f (laid-lent at count src run h n))
 
 -- a part of one run copied over a part of another

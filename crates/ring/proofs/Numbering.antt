@@ -6,6 +6,7 @@ use mathlib.Core.Logic.{_⊎_, inl, inr, ⊎-elim}
 use Prim.Native.Nat.{ℕ, zero, suc, _+_, _%_}
 use lib.Dec.{eqb, leb}
 use lib.ListN.{getD, length}
+use Rattle.truth.specs.Must.{must}
 use Rattle.truth.proofs.Bools.{never}
 use Rattle.runs.specs.Runs.{laid, part}
 use Rattle.ring.specs.declared.command.Command.{Command}
@@ -16,7 +17,7 @@ use Rattle.ring.specs.declared.marks.Marks.{Marks}
 use Rattle.ring.specs.Command.{Runs, commandOf, isInside, stored, listed, appended, does, obeyed, withList, taken, fault}
 use Rattle.ring.specs.Flow.{isOneOf, Regular}
 use Rattle.ring.specs.Ring.{arePlaces, isFree}
-use Rattle.ring.specs.Run.{Ran, stopped, wordsAt, settled, step, run, ran, must}
+use Rattle.ring.specs.Run.{Ran, stopped, wordsAt, settled, step, run, ran}
 use Rattle.ring.proofs.Steps.{isSized, now, step-cases}
 use Rattle.ring.proofs.Taking.{turn-cases}
 
@@ -111,7 +112,7 @@ module _ (ring : List ℕ) where
   unfolding ran
   ran-regular m x = go (isSized ring x) (arePlaces m) (isFree m)
     where
-      go : (a b c : Bool) → Regular m (must a 37 m x (must b 33 m x (must c 36 m x (run ring 1023 m x))))
+      go : (a b c : Bool) → Regular m (must a (stopped 37 m x) (must b (stopped 33 m x) (must c (stopped 36 m x) (run ring 1023 m x))))
       go false b c = refused m 37 x refl refl
       go true false c = refused m 33 x refl refl
       go true true false = refused m 36 x refl refl

@@ -9,7 +9,7 @@ use lib.Dec.{eqb, leb}
 use borrow.Author.Tests.{eqb-true, leb-true, eq-eqb, le-leb}
 use Rattle.truth.proofs.Bools.{both-true}
 use Rattle.ring.specs.declared.marks.Marks.{Marks}
-use Rattle.ring.specs.Host.{written, room}
+use Rattle.ring.specs.Host.{pastWords, room}
 use Rattle.ring.specs.Ring.{around, waiting, isPlace, arePlaces}
 use Rattle.ring.specs.Run.{movedOn, faulted}
 
@@ -153,9 +153,9 @@ module _ {m : Marks} (p : Placed m) where
   pub write-behind : (bytes : ℕ) → around (m .write) bytes ≡ around (m .read) (waiting m + bytes)
   write-behind bytes = ap (λ (w : ℕ). around w bytes) (sym behind-read) ∙ around-around (m .read) (waiting m) bytes
 
-  pub waiting-written : (bytes : ℕ) → bytes ≤ room m → waiting (written m bytes) ≡ waiting m + bytes
+  pub waiting-past-words : (bytes : ℕ) → bytes ≤ room m → waiting (pastWords m bytes) ≡ waiting m + bytes
   unfolding waiting room
-  waiting-written bytes h =
+  waiting-past-words bytes h =
       let most = waiting-most in
       around-inner (4096 - m .read) (m .write) bytes ∙ around-within (waiting m) bytes (omega arith)
 

@@ -7,7 +7,7 @@ use Rattle.ring.specs.declared.marks.Answer.{Answer}
 use Rattle.ring.specs.declared.marks.Marks.{Marks}
 use Rattle.ring.specs.Command.{Runs, lent}
 use Rattle.ring.specs.Ring.{waiting}
-use Rattle.ring.specs.Run.{Ran, step, run, told, Tells}
+use Rattle.ring.specs.Run.{Ran, step, run, Tells}
 use Rattle.ring.proofs.Steps.{Onward, Ended, onward-idle, onward-left, onward-more, onward-stop, step-fewer, step-most, step-one}
 
 ended-told : {r : Ran} {number place count : ℕ} {m : Marks} {list shown memory : List ℕ} → Ended r number place count m (lent list shown memory) →

@@ -20,7 +20,7 @@ use Rattle.ring.specs.declared.marks.Marks.{Marks}
 use Rattle.ring.specs.Command.{Runs, Done, sizeOf, commandOf, isInside, stored, listed, appended, does, obeyed, withList, taken, fault}
 use Rattle.ring.specs.Flow.{joined}
 use Rattle.ring.specs.Ring.{waiting, wordFrom, wordsFrom, each, arePlaces}
-use Rattle.ring.specs.Run.{Ran, stopped, commandAt, wordsAt, settled, step, then, run, areSized, told}
+use Rattle.ring.specs.Run.{Ran, stopped, commandAt, wordsAt, settled, step, then, run, areSized, runAnswer}
 use Rattle.ring.proofs.Places.{Placed, placed, arranged, placed-moved, placed-faulted, waiting-moved, waiting-faulted, waiting-most, waiting-some}
 
 -- THE WORDS OF A COMMAND
@@ -327,7 +327,7 @@ pub record Onward (ring : List ℕ) (m₀ : Marks) (x₀ : Runs) (count : ℕ) (
 
 -- how it ended
 pub record Ended (r : Ran) (number place count : ℕ) (m : Marks) (x : Runs) : Type 0 where
-  pub tells : told r ≡ record { number = number; place = place; count = count; marks = m }
+  pub tells : runAnswer r ≡ record { number = number; place = place; count = count; marks = m }
   pub leaves : r .runs ≡ x
 
 pub onward-none : (ring : List ℕ) (m : Marks) (x : Runs) → arePlaces m ≡ true → isSized ring x ≡ true → Onward ring m x 0 m x

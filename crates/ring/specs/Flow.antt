@@ -50,14 +50,14 @@ after (host bytes) s = record { ring = put (s .ring) bytes (s .marks) .ring; mar
 after coprocessor s = record { ring = s .ring; marks = ran (s .ring) (s .marks) (s .runs) .marks; runs = ran (s .ring) (s .marks) (s .runs) .runs }
 
 -- the words that a call put in: with number 0, the host's
-abbrev pub written : Call → Site → List ℕ
-written (host bytes) s = cond (eqb (put (s .ring) bytes (s .marks) .number) 0) (wordsIn bytes) []
-written coprocessor s = []
+abbrev pub wordsPut : Call → Site → List ℕ
+wordsPut (host bytes) s = cond (eqb (put (s .ring) bytes (s .marks) .number) 0) (wordsIn bytes) []
+wordsPut coprocessor s = []
 
 -- the words that a call took out, which are those of the commands that it obeyed
-abbrev pub taken : Call → Site → List ℕ
-taken (host bytes) s = []
-taken coprocessor s = joined (ran (s .ring) (s .marks) (s .runs) .commands)
+abbrev pub wordsTaken : Call → Site → List ℕ
+wordsTaken (host bytes) s = []
+wordsTaken coprocessor s = joined (ran (s .ring) (s .marks) (s .runs) .commands)
 
 abbrev pub finally : List Call → Site → Site
 finally [] s = s
@@ -88,7 +88,7 @@ pub record Regular (m : Marks) (r : Ran) : Type 0 where
 pub record Flows : Type 0 where
   -- Whatever the host writes and however often the ring is run: what waited at first and then what the host wrote is what the runs took and then what
   -- still waits. So the words that are taken are those that were written, in order, past the wrap too; none is lost and none is taken twice.
-  pub inOrder : (calls : List Call) (s : Site) → waits s ++ all written calls s ≡ all taken calls s ++ waits (finally calls s)
+  pub inOrder : (calls : List Call) (s : Site) → waits s ++ all wordsPut calls s ≡ all wordsTaken calls s ++ waits (finally calls s)
   -- What a run leaves of RAM_DL, the shown list and RAM_G is what the commands that it took leave, and nothing besides.
   pub byCommands : (ring : List ℕ) (m : Marks) (x : Runs) → ran ring m x .runs ≡ allObeyed (ran ring m x .commands) (m .offset) x
   -- Number, place and marks are as the page says, whatever is in the ring.

@@ -6,6 +6,7 @@ use mathlib.Core.List.{List, [], _∷_, _++_}
 use Prim.Native.Nat.{ℕ, zero, suc, _*_}
 use lib.Dec.{eqb, leb, ltb}
 use lib.ListN.{length}
+use Rattle.truth.specs.Must.{must}
 use Rattle.ring.specs.declared.command.Outcome.{Outcome}
 use Rattle.ring.specs.declared.command.Outcome.the-variants as o
 use Rattle.ring.specs.declared.marks.Answer.{Answer}
@@ -59,6 +60,8 @@ then s rest =
     (record { number = rest .number; place = rest .place; commands = s .commands ++ rest .commands; marks = rest .marks; runs = rest .runs })
     s
 
+-- The 1,023 commands of `ran` never run out before the ring does: at most 4,092 bytes wait, and each command takes a word of them at least, so after 1,023
+-- the ring is empty. The claim `stops` of Flow.antt says so.
 unfoldable pub run : List ℕ → ℕ → Marks → Runs → Ran
 run ring zero m x = stopped 0 m x
 run ring (suc n) m x =
@@ -70,22 +73,19 @@ run ring (suc n) m x =
 unfoldable pub areSized : ℕ → ℕ → ℕ → ℕ → Bool
 areSized ring list shown memory = eqb ring 4096 && eqb list 8192 && eqb shown 8192 && leb memory 1048576
 
-abbrev pub must : Bool → ℕ → Marks → Runs → Ran → Ran
-must kept number m x further = cond kept further (stopped number m x)
-
 -- 'Order 37, 33, 36, then 30 to 35 by command'
 unfoldable pub ran : List ℕ → Marks → Runs → Ran
 ran ring m x =
-    must (areSized (length ring) (length (x .list)) (length (x .shown)) (length (x .memory))) 37 m x
-    (must (arePlaces m) 33 m x
-    (must (isFree m) 36 m x
+    must (areSized (length ring) (length (x .list)) (length (x .shown)) (length (x .memory))) (stopped 37 m x)
+    (must (arePlaces m) (stopped 33 m x)
+    (must (isFree m) (stopped 36 m x)
     (run ring 1023 m x)))
 
 -- 'The count is of commands taken, a faulting one not.'
-abbrev pub told : Ran → Answer
-told r = record { number = r .number; place = r .place; count = length (r .commands); marks = r .marks }
+abbrev pub runAnswer : Ran → Answer
+runAnswer r = record { number = r .number; place = r .place; count = length (r .commands); marks = r .marks }
 
 -- a run of the ring told, and every byte that it leaves; the ring itself is only read
 pub record Tells (r : Ran) (answer : Answer) (list shown memory : List ℕ) : Type 0 where
-  pub answered : answer ≡ told r
+  pub answered : answer ≡ runAnswer r
   pub left : r .runs ≡ lent list shown memory

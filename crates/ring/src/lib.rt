@@ -67,7 +67,8 @@ fn step(ring: &[u8], list: &mut [u8], shown: &mut [u8], memory: &mut [u8], marks
     }
 }
 
-// Takes command after command until one stops the run or none waits.
+// Takes command after command until one stops the run or none waits. No count ends the loop: at most 4,092 bytes wait and each
+// command takes 4 of them at least, so the 1,023 commands of the contract empty the ring (`stops`, specs/Flow.antt).
 fn run_all(
     ring: &[u8],
     list: &mut [u8],

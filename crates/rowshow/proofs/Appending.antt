@@ -6,7 +6,7 @@ use native.Mathlib.Numerals.{add-one}
 use native.Mathlib.Omega.{arith}
 use lib.ListN.{length, take, set, getD, length-append}
 use lib.Seq.{take-suc, take-suc-set}
-use Rattle.rowshow.specs.Text.{Appends, hexText, pixelText, pixelAt, pixelsAfter}
+use Rattle.rowshow.specs.Text.{Appends, hexText, pixelText, pixelTextAt, pixelsAfter}
 
 pub one-byte : (byte at : ℕ) (out : List ℕ) → at < length out → Appends (byte ∷ []) at out (at + 1) (set out at byte)
 one-byte byte at out inside = record { ends = omega arith; front = rw (add-one at) (take-suc-set out at byte inside) }
@@ -30,12 +30,12 @@ one-more bytes k inside first second = rw (add-one k, take-suc bytes k 0 inside)
 -- pixel k + 1 of a row, behind a space
 pub next-pixel :
     (picture tags : List ℕ) (k : ℕ) {x y z w : List ℕ} {at next mid end : ℕ} → Appends (pixelsAfter picture tags k) at x next y →
-    Appends (32 ∷ []) next y mid z → Appends (pixelAt picture tags (k + 1)) mid z end w → Appends (pixelsAfter picture tags (k + 1)) at x end w
+    Appends (32 ∷ []) next y mid z → Appends (pixelTextAt picture tags (k + 1)) mid z end w → Appends (pixelsAfter picture tags (k + 1)) at x end w
 unfolding pixelsAfter
 next-pixel picture tags k before space pixel = rw (add-one k) (then before (then space (rw (add-one k) at pixel)))
 
-pub pixel-long : (picture tags : List ℕ) (k : ℕ) → length (pixelAt picture tags k) ≡ 9
-unfolding pixelAt pixelText hexText
+pub pixel-long : (picture tags : List ℕ) (k : ℕ) → length (pixelTextAt picture tags k) ≡ 9
+unfolding pixelTextAt pixelText hexText
 pixel-long picture tags k = refl
 
 pub others-long : (picture tags : List ℕ) (k : ℕ) → length (pixelsAfter picture tags k) ≡ 10 * k
@@ -44,7 +44,7 @@ others-long picture tags zero = refl
 others-long picture tags (suc k) =
     omega (
       arith,
-      length-append (pixelsAfter picture tags k) (32 ∷ [] ++ pixelAt picture tags (suc k)),
+      length-append (pixelsAfter picture tags k) (32 ∷ [] ++ pixelTextAt picture tags (suc k)),
       others-long picture tags k,
       pixel-long picture tags (suc k),
     )

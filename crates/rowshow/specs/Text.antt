@@ -27,18 +27,18 @@ pixelText red green blue tag = hexText red ++ (hexText green ++ (hexText blue ++
 abbrev pub IsRow : List ℕ → List ℕ → Type 0
 IsRow picture tags = (length picture ≡ 12) × (length tags ≡ 4)
 
--- its pixel k: three bytes R G B in one run, the tag byte in a second
-unfoldable pub pixelAt : List ℕ → List ℕ → ℕ → List ℕ
-pixelAt picture tags k = pixelText (getD picture (3 * k) 0) (getD picture (3 * k + 1) 0) (getD picture (3 * k + 2) 0) (getD tags k 0)
+-- the text of its pixel k: three bytes R G B in one run, the tag byte in a second
+unfoldable pub pixelTextAt : List ℕ → List ℕ → ℕ → List ℕ
+pixelTextAt picture tags k = pixelText (getD picture (3 * k) 0) (getD picture (3 * k + 1) 0) (getD picture (3 * k + 2) 0) (getD tags k 0)
 
 -- pixels 1 to k, each behind a space
 unfoldable pub pixelsAfter : List ℕ → List ℕ → ℕ → List ℕ
 pixelsAfter picture tags zero = []
-pixelsAfter picture tags (suc k) = pixelsAfter picture tags k ++ (32 ∷ [] ++ pixelAt picture tags (suc k))
+pixelsAfter picture tags (suc k) = pixelsAfter picture tags k ++ (32 ∷ [] ++ pixelTextAt picture tags (suc k))
 
 -- the row
 unfoldable pub rowText : List ℕ → List ℕ → List ℕ
-rowText picture tags = pixelAt picture tags 0 ++ (pixelsAfter picture tags 3 ++ newline)
+rowText picture tags = pixelTextAt picture tags 0 ++ (pixelsAfter picture tags 3 ++ newline)
 
 -- A NUMBER in base 10, without zeros in front, where `more` digits and one hold it
 unfoldable pub decimalWithin : ℕ → ℕ → List ℕ

@@ -27,6 +27,9 @@ fn show(list: &[u8], out: &mut [u8]) -> usize
     )
 }
 
+// `show` is proved. Of `main` no contract speaks: what it reads and writes is run and compared, on this crate's stdin and stdout
+// and by tests/rowshow.
+//
 // One byte more than the longest list is read, so that a list too long is refused as jv_paint_row refuses it. A read that
 // fails ends the list, as its end does.
 fn main() {

@@ -4,7 +4,7 @@ ghost use mathlib.Core.List.{[], _∷_};
 ghost use Prim.Native.Nat.{_+_, _<_, _≤_};
 ghost use lib.ListN.{length};
 ghost use Rattle.io.specs.Digits.{glyph};
-ghost use Rattle.rowshow.specs.Text.{Appends, IsRow, hexText, pixelText, pixelAt, pixelsAfter, rowText, decimalText, namedText, doneText, refusedText, faultText, answerText};
+ghost use Rattle.rowshow.specs.Text.{Appends, IsRow, hexText, pixelText, pixelTextAt, pixelsAfter, rowText, decimalText, namedText, doneText, refusedText, faultText, answerText};
 
 fn digit(value: u8) -> u8
     requires { ⌜ value < 16 ⌝ }
@@ -43,7 +43,7 @@ fn put_pixel(red: u8, green: u8, blue: u8, tag: u8, out: &mut [u8], at: usize) -
 // Pixel k of a row.
 fn put_pixel_at(picture: &[u8], tags: &[u8], k: usize, out: &mut [u8], at: usize) -> usize
     requires { ⌜ (k < 4) × (IsRow (now picture) (now tags) × (at + 9 ≤ length (now out))) ⌝ }
-    ensures { λ r. ⌜ Appends (pixelAt (now (picture .entry)) (now (tags .entry)) k) at (now (out .entry)) r (now (out .exit)) ⌝ }
+    ensures { λ r. ⌜ Appends (pixelTextAt (now (picture .entry)) (now (tags .entry)) k) at (now (out .entry)) r (now (out .exit)) ⌝ }
 {
     put_pixel(
         picture[3 * k],

@@ -26,6 +26,9 @@ pub lent-part : (a count : ℕ) (run : List ℕ) → take (a + count - a) (drop 
 unfolding part
 lent-part a count run = rw add-sub-cancel-left
 
+pub lent-part-long : (a count : ℕ) (run : List ℕ) → a + count ≤ length run → length (take (a + count - a) (drop a run)) ≡ count
+lent-part-long a count run h = ap length (lent-part a count run) ∙ part-long a count run h
+
 pub laid-none : (at : ℕ) (run : List ℕ) → at ≤ length run → laid at [] run ≡ run
 unfolding laid
 laid-none at run h = rw (add-zero, take-append-drop)

@@ -1,7 +1,7 @@
 use mathlib.Core.Path.{ap, sym, _∙_}
 use native.Mathlib.Omega.{arith}
 use Rattle.ring.specs.Command.{commandOf, lent, sizeOf}
-use Rattle.ring.specs.Run.{told}
+use Rattle.ring.specs.Run.{runAnswer}
 use Rattle.ring.proofs.Places.{placed}
 use Rattle.ring.proofs.Stepping.{size-most, step-fault, step-short, step-taken}
 use Rattle.ring.proofs.Steps.{sized}
@@ -37,7 +37,7 @@ returns c =
     let k = w .before .before .command-of .ensures ∙ ap commandOf (w .before .before .before .word-from .ensures) in
     let z = w .before .size-of .ensures ∙ ap sizeOf k in
     let h = step-short (s .args .ring .now) (s .args .marks) x (rw (← z, ← w .waiting .ensures) (c .before .if1 .taken)) in
-    record { answered = c .stop .ensures ∙ sym (ap told h); left = ap (λ r. r .runs) h }
+    record { answered = c .stop .ensures ∙ sym (ap runAnswer h); left = ap (λ r. r .runs) h }
 
 obey-requires : tie.Need-obey-requires
 obey-requires c κs =
@@ -76,7 +76,7 @@ returns-2 c =
     let z = w .before .size-of .ensures ∙ ap sizeOf k in
     let t = rw (w .waiting .ensures, z) at (c .before .before .before .before .before .before .before .before .before .before .before .before .before .before .if1 .left) in
     let h = step-taken (s .args .ring .now) (s .args .marks) x t _ _ _ (rw (c .before .before .outcome .given .1, k) at (c .before .before .before .before .before .before .before .before .before .before .obey .ensures)) in
-    record { answered = rw (c .around .ensures, z) (sym (ap told h)); left = ap (λ r. r .runs) h }
+    record { answered = rw (c .around .ensures, z) (sym (ap runAnswer h)); left = ap (λ r. r .runs) h }
 
 same-length-4 : tie.Need-same-length-4
 same-length-4 c = search needs
@@ -96,7 +96,7 @@ returns-3 c =
     let z = w .before .size-of .ensures ∙ ap sizeOf k in
     let t = rw (w .waiting .ensures, z) at (c .before .before .before .before .before .before .before .before .before .before .before .before .before .if1 .left) in
     let h = step-fault (s .args .ring .now) (s .args .marks) x t _ _ (rw (c .before .outcome2 .given .1, k) at (c .before .before .before .before .before .before .before .before .before .obey .ensures)) in
-    record { answered = sym (ap told h); left = ap (λ r. r .runs) h }
+    record { answered = sym (ap runAnswer h); left = ap (λ r. r .runs) h }
 
 pub step-spec : {M : Type 1} → statement M
 step-spec =

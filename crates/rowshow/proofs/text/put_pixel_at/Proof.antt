@@ -1,7 +1,7 @@
 use borrow.Author.Needs.{needs}
 use Rattle.rowshow.proofs.text.put_pixel_at.Statement.{statement}
 use Rattle.rowshow.proofs.text.put_pixel_at.Tie as tie
-use Rattle.rowshow.specs.Text.{pixelAt}
+use Rattle.rowshow.specs.Text.{pixelTextAt}
 
 mul-put-pixel : tie.Need-mul-put-pixel
 mul-put-pixel c = search needs
@@ -37,7 +37,7 @@ same-length : tie.Need-same-length
 same-length c = search needs
 
 returns : tie.Need-returns
-unfolding pixelAt
+unfolding pixelTextAt
 returns c = c .before .before .put-pixel .ensures
 
 pub put-pixel-at-spec : {M : Type 1} → statement M
