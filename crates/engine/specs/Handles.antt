@@ -1,6 +1,6 @@
 -- The bitmap handles: what BITMAP_SOURCE, BITMAP_LAYOUT, BITMAP_SIZE and the two H words set, and which bitmap a vertex draws.
--- Document 01, 'Which pixels', from 'Cell c starts at' to 'on screen or off.' The settings lie in a list of 512 numbers, sixteen places
--- for each of the 32 handles; what no word has set is 0.
+-- Document 01, 'Which pixels', from 'Cell c starts at' to 'on screen or off.' The settings lie in a list of numbers, sixteen places for each of
+-- the 32 handles; what no word has set is 0.
 use mathlib.Core.Bool.{Bool, cond}
 use mathlib.Core.List.{List}
 use Prim.Native.Nat.{ℕ, _+_, _*_, _%_, _^_, _<_}
@@ -16,6 +16,9 @@ use Rattle.engine.specs.declared.handles.Handle.{Handle}
 use Rattle.engine.specs.declared.handles.Judged.{Judged}
 use Rattle.engine.specs.declared.handles.Judged.the-variants as j
 use Rattle.engine.specs.declared.handles.Vertex.{Vertex}
+
+abbrev pub settings : ℕ
+settings = 512
 
 -- a place of a handle; a handle's number has five bits
 abbrev pub place : ℕ → ℕ → ℕ

@@ -7,12 +7,15 @@
 //   9 the high bits of the stride, 10 of the layout's height, 11 of the width, 12 of the height
 ghost use mathlib.Core.Path.{_≡_};
 ghost use Prim.Native.Nat.{_+_, _*_, _%_, _≤_, _<_, _^_};
+ghost use Rattle.engine.specs.Run.{mostMemory};
 ghost use Rattle.engine.specs.Handles.{put, get, sourced, laidOut, sized, laidOutHigh, sizedHigh, given, joined, handleAt, coverOf, judged, Narrow};
 use action::Area;
 use action::Bitmap;
 use action::Format;
 use units::Pixels;
 use units::Sixteenths;
+
+pub const SETTINGS: usize = 512;
 
 // What the words of one handle come to, main words and H words together.
 pub struct Handle {
@@ -33,7 +36,7 @@ pub struct Vertex {
     pub cell: u32,
 }
 
-fn put(handles: &mut [u32; 512], handle: u32, place: u32, value: u32)
+fn put(handles: &mut [u32; SETTINGS], handle: u32, place: u32, value: u32)
     requires { ⌜ place < 16 ⌝ }
     ensures { λ r. ⌜ now (handles .exit) ≡ put (now (handles .entry)) handle place value ⌝ }
 {
@@ -41,7 +44,7 @@ fn put(handles: &mut [u32; 512], handle: u32, place: u32, value: u32)
     handles[k] = value;
 }
 
-fn get(handles: &[u32; 512], handle: u32, place: u32) -> u32
+fn get(handles: &[u32; SETTINGS], handle: u32, place: u32) -> u32
     requires { ⌜ place < 16 ⌝ }
     ensures { λ r. ⌜ r ≡ get (now (handles .entry)) handle place ⌝ }
 {
@@ -49,14 +52,14 @@ fn get(handles: &[u32; 512], handle: u32, place: u32) -> u32
     handles[k]
 }
 
-pub fn put_source(handles: &mut [u32; 512], handle: u32, address: u32)
+pub fn put_source(handles: &mut [u32; SETTINGS], handle: u32, address: u32)
     ensures { λ r. ⌜ now (handles .exit) ≡ sourced (now (handles .entry)) handle address ⌝ }
 {
     put(handles, handle, 0, 1);
     put(handles, handle, 1, address);
 }
 
-pub fn put_layout(handles: &mut [u32; 512], handle: u32, format: u32, stride: u32, height: u32)
+pub fn put_layout(handles: &mut [u32; SETTINGS], handle: u32, format: u32, stride: u32, height: u32)
     ensures { λ r. ⌜ now (handles .exit) ≡ laidOut (now (handles .entry)) handle format stride height ⌝ }
 {
     put(handles, handle, 2, 1);
@@ -65,7 +68,7 @@ pub fn put_layout(handles: &mut [u32; 512], handle: u32, format: u32, stride: u3
     put(handles, handle, 5, height);
 }
 
-pub fn put_size(handles: &mut [u32; 512], handle: u32, width: u32, height: u32)
+pub fn put_size(handles: &mut [u32; SETTINGS], handle: u32, width: u32, height: u32)
     ensures { λ r. ⌜ now (handles .exit) ≡ sized (now (handles .entry)) handle width height ⌝ }
 {
     put(handles, handle, 6, 1);
@@ -73,14 +76,14 @@ pub fn put_size(handles: &mut [u32; 512], handle: u32, width: u32, height: u32)
     put(handles, handle, 8, height);
 }
 
-pub fn put_layout_high(handles: &mut [u32; 512], handle: u32, stride: u32, height: u32)
+pub fn put_layout_high(handles: &mut [u32; SETTINGS], handle: u32, stride: u32, height: u32)
     ensures { λ r. ⌜ now (handles .exit) ≡ laidOutHigh (now (handles .entry)) handle stride height ⌝ }
 {
     put(handles, handle, 9, stride);
     put(handles, handle, 10, height);
 }
 
-pub fn put_size_high(handles: &mut [u32; 512], handle: u32, width: u32, height: u32)
+pub fn put_size_high(handles: &mut [u32; SETTINGS], handle: u32, width: u32, height: u32)
     ensures { λ r. ⌜ now (handles .exit) ≡ sizedHigh (now (handles .entry)) handle width height ⌝ }
 {
     put(handles, handle, 11, width);
@@ -88,7 +91,7 @@ pub fn put_size_high(handles: &mut [u32; 512], handle: u32, width: u32, height: 
 }
 
 // A number whose low bits are in one place and whose high bits, which count so many times as much, in another.
-fn joined(handles: &[u32; 512], handle: u32, low: u32, high: u32, power: u32) -> u64
+fn joined(handles: &[u32; SETTINGS], handle: u32, low: u32, high: u32, power: u32) -> u64
     requires { ⌜ (low < 16) × ((high < 16) × (power ≤ 1024)) ⌝ }
     ensures { λ r. ⌜ r ≡ joined (now (handles .entry)) handle low high power ⌝ }
     ensures { λ r. ⌜ r < 2 ^ 43 ⌝ }
@@ -98,7 +101,7 @@ fn joined(handles: &[u32; 512], handle: u32, low: u32, high: u32, power: u32) ->
     below as u64 + power as u64 * above as u64
 }
 
-fn is_given(handles: &[u32; 512], handle: u32) -> bool
+fn is_given(handles: &[u32; SETTINGS], handle: u32) -> bool
     ensures { λ r. ⌜ r ≡ given (now (handles .entry)) handle ⌝ }
 {
     if get(handles, handle, 0) != 1 {
@@ -110,7 +113,7 @@ fn is_given(handles: &[u32; 512], handle: u32) -> bool
     get(handles, handle, 6) == 1
 }
 
-pub fn handle_at(handles: &[u32; 512], handle: u32) -> Handle
+pub fn handle_at(handles: &[u32; SETTINGS], handle: u32) -> Handle
     ensures { λ r. ⌜ r ≡ handleAt (now (handles .entry)) handle ⌝ }
     ensures { λ r. ⌜ Narrow r ⌝ }
 {
@@ -148,7 +151,7 @@ pub enum Judged {
 // Number 18, or the bitmap that the vertex draws. A stride, a height or a cell longer than RAM_G is refused before it is
 // multiplied, so that no product is too large for its type.
 pub fn judge(h: Handle, v: Vertex, memory: u32) -> Judged
-    requires { ⌜ Narrow h × (memory ≤ 2 ^ 20) ⌝ }
+    requires { ⌜ Narrow h × (memory ≤ mostMemory) ⌝ }
     ensures { λ r. ⌜ r ≡ judged h v memory ⌝ }
 {
     let room = memory as u64;

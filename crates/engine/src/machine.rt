@@ -3,11 +3,13 @@
 ghost use mathlib.Core.Path.{_≡_};
 ghost use Prim.Native.Nat.{_≤_, _<_, _+_, _-_, _^_};
 ghost use Rattle.engine.specs.Handles.{judged, Narrow};
+ghost use Rattle.engine.specs.Run.{mostMemory};
 ghost use Rattle.engine.specs.Machine.{started, called, returned, drawnFormat, drawnSize, drawnPrimitive, unitOf, placed2f, placed2ii, rectangleOf, openedAt, clears, pointed, bitmapped, segmentFrom, segmented, vertexed, obeys, steps};
 use crate::context::Context;
 use crate::context::Placing;
 use crate::handles::Handle;
 use crate::handles::Judged;
+use crate::handles::SETTINGS;
 use crate::handles::Vertex;
 use crate::handles::handle_at;
 use crate::handles::judge;
@@ -256,7 +258,7 @@ fn segment_event(c: Corner, v: Vertex, width: u32, primitive: u32) -> Event
 }
 
 fn bitmap_event(h: Handle, v: Vertex, memory: u32) -> Event
-    requires { ⌜ Narrow h × (memory ≤ 2 ^ 20) ⌝ }
+    requires { ⌜ Narrow h × (memory ≤ mostMemory) ⌝ }
     ensures { λ r. ⌜ r ≡ bitmapped (judged h v memory) ⌝ }
 {
     match judge(h, v, memory) {
@@ -320,8 +322,8 @@ impl Machine {
     }
 
     // What a vertex draws. Its handle and cell are looked at only while BITMAPS is begun.
-    fn vertex(mut self, handles: &[u32; 512], memory: u32, v: Vertex) -> Stepped
-        requires { ⌜ memory ≤ 2 ^ 20 ⌝ }
+    fn vertex(mut self, handles: &[u32; SETTINGS], memory: u32, v: Vertex) -> Stepped
+        requires { ⌜ memory ≤ mostMemory ⌝ }
         ensures { λ r. ⌜ r ≡ vertexed self (now (handles .entry)) memory v ⌝ }
     {
         let primitive = self.primitive;
@@ -369,7 +371,7 @@ impl Machine {
     }
 
     // What a command does. Those that are not drawn yet give 13, by the word alone.
-    fn obey(mut self, handles: &mut [u32; 512], word: Word) -> Obeyed
+    fn obey(mut self, handles: &mut [u32; SETTINGS], word: Word) -> Obeyed
         ensures { λ r. ⌜ (r ≡ obeys self (now (handles .entry)) word .obeyed) × (now (handles .exit) ≡ obeys self (now (handles .entry)) word .handles) ⌝ }
     {
         let placing = self.context.placing;
@@ -596,8 +598,8 @@ impl Machine {
     }
 
     // A word read and obeyed.
-    pub fn step(self, handles: &mut [u32; 512], memory: u32, bits: u32) -> Stepped
-        requires { ⌜ memory ≤ 2 ^ 20 ⌝ }
+    pub fn step(self, handles: &mut [u32; SETTINGS], memory: u32, bits: u32) -> Stepped
+        requires { ⌜ memory ≤ mostMemory ⌝ }
         ensures { λ r. ⌜ (r ≡ steps self (now (handles .entry)) memory bits .stepped) × (now (handles .exit) ≡ steps self (now (handles .entry)) memory bits .handles) ⌝ }
     {
         match words::read_word(bits) {
