@@ -6,12 +6,11 @@ use Rattle.engine.specs.Run.{after, run}
 use Rattle.pixel.specs.Blend.{product, blended}
 use Rattle.runs.specs.Runs.{wordAt, bytesOf}
 use Rattle.units.specs.Units.{meantPixels, floor16, sixteenthAt}
-use Rattle.words.specs.Fields.{both}
 use Rattle.words.specs.Words.{checked, readWord}
 use Rattle.jokulvisp.specs.Examples.{CheckedByHand, LiesIn}
 
 pub checked-by-hand : CheckedByHand
-unfolding both checked readWord called obeys steps wordAt bytesOf after run keptWith newest dropped pushed popped product blended meantPixels floor16 sixteenthAt
+unfolding checked readWord called obeys steps wordAt bytesOf after run keptWith newest dropped pushed popped product blended meantPixels floor16 sixteenthAt
 checked-by-hand =
     record {
       one = refl;

@@ -6,9 +6,9 @@ use Prim.Native.Nat.{ℕ}
 use Rattle.ring.specs.declared.marks.Answer.{Answer}
 use Rattle.ring.specs.declared.marks.Marks.{Marks}
 use Rattle.ring.specs.Command.{lent}
-use Rattle.ring.specs.Host.{put, reset, told as putTold}
+use Rattle.ring.specs.Host.{put, reset, hostAnswer}
 use Rattle.ring.specs.Ring.{reported}
-use Rattle.ring.specs.Run.{ran, told}
+use Rattle.ring.specs.Run.{ran, runAnswer}
 use Rattle.jokulvisp.specs.declared.ringing.JvRing.{JvRing}
 
 abbrev pub spread : Answer → JvRing
@@ -26,12 +26,12 @@ spread a =
 
 -- jv_ring_run, for every ring, RAM_DL, shown list and RAM_G and every four marks
 pub record RingRunAnswer (ring list shown memory : List ℕ) (m : Marks) (answer : JvRing) (list′ shown′ memory′ : List ℕ) : Type 0 where
-  pub answered : answer ≡ spread (told (ran ring m (lent list shown memory)))
+  pub answered : answer ≡ spread (runAnswer (ran ring m (lent list shown memory)))
   pub left : lent list′ shown′ memory′ ≡ ran ring m (lent list shown memory) .runs
 
 -- jv_ring_write, for every ring, whatever bytes the host has, and every four marks
 pub record RingWriteAnswer (ring words : List ℕ) (m : Marks) (answer : JvRing) (ring′ : List ℕ) : Type 0 where
-  pub answered : answer ≡ spread (putTold (put ring words m))
+  pub answered : answer ≡ spread (hostAnswer (put ring words m))
   pub left : ring′ ≡ put ring words m .ring
 
 unfoldable pub RingResetAnswer : JvRing → Type 0
