@@ -103,10 +103,6 @@ module _ {row : ℕ → List ℕ} {wide height : ℕ} {old : List ℕ} where
         let n : length old ≤ at = omega (arith, simp (length-append, length-drop) at (ap length (f .is)), done-long, f .begins, f .long, ap (λ (n : ℕ). n * wide) s) in
         f .is ∙ rw (drop-of-length-le old n, append-nil, s)
 
--- a part that is lent has the length that its bounds say
-pub part-long : (xs : List ℕ) (at wide : ℕ) → at + wide ≤ length xs → length (take (at + wide - at) (drop at xs)) ≡ wide
-part-long xs at wide h = simp (length-take, length-drop) (omega arith)
-
 -- a run is its rows one after another
 pub rows-stacked : (run : List ℕ) (wide height : ℕ) → length run ≡ height * wide → run ≡ stacked (rowIn run wide) height
 rows-stacked run wide height e = filled-all (to height (le-refl height)) (le-refl height)

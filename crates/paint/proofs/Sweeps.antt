@@ -18,12 +18,12 @@ use Rattle.pixel.specs.declared.plain.Plain.{Plain}
 use Rattle.pixel.specs.declared.plain.Plain.the-variants as p
 use Rattle.pixel.specs.Plain.{filled}
 use Rattle.shape.specs.declared.Chord.{Chord}
-use Rattle.shape.specs.Cover.{reaches, between}
+use Rattle.shape.specs.Cover.{between, outlineOf, reaches}
 use Rattle.shape.specs.OneRow.{Reached, Sampled, holdsIn}
 use Rattle.units.specs.declared.Pixels.{Pixels}
 use Rattle.units.proofs.Meaning.{pixels-at}
 use Rattle.units.specs.Units.{PixelOf, pixelAt, countBefore}
-use Rattle.paint.specs.Picture.{changed, drawnAt, outlineOf}
+use Rattle.paint.specs.Picture.{changed, drawnAt}
 use Rattle.paint.specs.Runs.{Lent, PlainDrawing, PlainOver, Touched, Swept, Drawn, change, held, pixelIn}
 
 pub swept-none : (from : ℕ) (step : ℕ → Pixel → Pixel) (old : ℕ → Pixel) → Swept from from step old old

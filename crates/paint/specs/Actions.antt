@@ -7,11 +7,9 @@ use Prim.Native.Nat.{ℕ, zero, suc, _+_, _*_, _<_, _≤_}
 use lib.ListN.{length, getD}
 use Rattle.action.specs.declared.Action.{Action}
 use Rattle.engine.specs.Run.{actionsOf}
-use Rattle.shape.specs.Cover.{reaches}
+use Rattle.shape.specs.Reach.{Bands}
 use Rattle.store.specs.Store.{keptAt, numbersEach, placesEach}
-use Rattle.units.specs.Units.{pixelAt}
 use Rattle.paint.specs.declared.kept.Gathered.{Gathered}
-use Rattle.paint.specs.Picture.{outlineOf}
 
 -- how many actions there is room for
 abbrev pub most : ℕ
@@ -21,11 +19,6 @@ most = 1024
 unfoldable pub keptUpTo : List ℕ → List ℕ → ℕ → List Action
 keptUpTo numbers places zero = []
 keptUpTo numbers places (suc n) = keptUpTo numbers places n ++ (keptAt numbers places n ∷ [])
-
--- the action reaches no row of a frame outside of the band
-abbrev pub Bands : Action → ℕ → ℕ → Type 0
-Bands action top bottom =
-    (x y : ℕ) → x < 800 → y < 600 → reaches (outlineOf (action .drawing)) (action .scissor) (pixelAt x) (pixelAt y) ≡ true → (top ≤ y) × (y < bottom)
 
 -- the k-th kept action has its band in the k-th pair of numbers
 abbrev pub BandAt : List ℕ → List ℕ → List ℕ → ℕ → Type 0

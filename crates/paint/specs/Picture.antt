@@ -1,7 +1,7 @@
 -- A picture, point by point: the pixel at (x, y) is a fold over the actions, and the bytes of a row and of a frame are lists built from it.
 -- Document 01, 'Which pixels' and 'One pixel'; 'three bytes R G B a pixel and one tag byte in a second run'; 'the tag run starts at 0 as do
 -- colour, alpha and stencil'.
-use mathlib.Core.Bool.{Bool, cond, _||_}
+use mathlib.Core.Bool.{Bool, cond}
 use mathlib.Core.List.{List, [], _∷_, _++_}
 use Prim.Native.Nat.{ℕ, zero, suc, _+_, _-_, _*_}
 use lib.Dec.{eqb}
@@ -9,29 +9,14 @@ use lib.ListN.{length, getD, take, drop}
 use Rattle.action.specs.declared.Action.{Action}
 use Rattle.action.specs.declared.Drawing.{Drawing}
 use Rattle.action.specs.declared.Drawing.the-variants as d
-use Rattle.action.specs.declared.ink.Clear.{Clear}
 use Rattle.action.specs.declared.ink.Masks.{Masks}
 use Rattle.pixel.specs.declared.Pixel.{Pixel}
 use Rattle.pixel.specs.Blend.{white}
-use Rattle.pixel.specs.Bytes.{isSet}
 use Rattle.pixel.specs.Pixel.{painted, cleared}
-use Rattle.shape.specs.Cover.{reaches}
-use Rattle.shape.specs.declared.Outline.{Outline}
-use Rattle.shape.specs.declared.Outline.the-variants as o
+use Rattle.shape.specs.Cover.{outlineOf, reaches}
 use Rattle.texel.specs.Texel.{texelAt}
 use Rattle.units.specs.declared.Pixels.{Pixels}
 use Rattle.units.specs.Units.{pixelAt}
-
--- 'CLEAR covers everything if any of its three flags is set, else nothing.'
-unfoldable pub isAny : Clear → Bool
-isAny c = isSet (c .colour) || (isSet (c .stencil) || isSet (c .tag))
-
-unfoldable pub outlineOf : Drawing → Outline
-outlineOf (d.Clear c) = cond (isAny c) o.Everything o.Nothing
-outlineOf (d.Point point ink) = o.Point point
-outlineOf (d.Rectangle rectangle ink) = o.Rectangle rectangle
-outlineOf (d.Bitmap bitmap ink) = o.Area (bitmap .area)
-outlineOf (d.Segment segment ink) = o.Segment segment
 
 -- what a drawing makes of the pixel at column p and row q: 'Texel (white where no bitmap is drawn)'
 unfoldable pub changed : List ℕ → Masks → Drawing → Pixels → Pixels → Pixel → Pixel

@@ -14,10 +14,10 @@ use Rattle.action.specs.declared.Action.{Action}
 use Rattle.paint.proofs.Rows.{colours-long, colours-same, tags-long, tags-same}
 use Rattle.paint.proofs.Patching.{patched-all, patched-none}
 use Rattle.paint.proofs.Stacks.{row-stacked}
-use Rattle.paint.specs.Picture.{drawnAt, drawnBy, isMarked, patched, outlineOf, pixelOf, rowColours, rowTags, stacked}
+use Rattle.paint.specs.Picture.{drawnAt, drawnBy, isMarked, patched, pixelOf, rowColours, rowTags, stacked}
 use Rattle.pixel.specs.declared.Pixel.{Pixel}
 use Rattle.shape.proofs.Reaching.{none-reached}
-use Rattle.shape.specs.Cover.{reachesRow}
+use Rattle.shape.specs.Cover.{outlineOf, reachesRow}
 use Rattle.units.specs.Units.{pixelAt}
 use Rattle.repaint.specs.Repaint.{Mark, Marks, marked, reaching}
 

@@ -14,8 +14,8 @@ use Rattle.action.specs.declared.Action.{Action}
 use Rattle.engine.specs.declared.run.Find.{Find}
 use Rattle.engine.specs.declared.run.Find.the-variants as f
 use Rattle.engine.specs.declared.run.Stop.{Stop}
-use Rattle.paint.specs.Actions.{Bands}
-use Rattle.paint.specs.Picture.{outlineOf}
+use Rattle.shape.specs.Cover.{outlineOf}
+use Rattle.shape.specs.Reach.{Bands}
 use Rattle.shape.proofs.Reaching.{row-by-none}
 use Rattle.units.specs.Units.{larger, pixelAt, smaller, tallest, widest}
 use Rattle.repaint.specs.Repaint.{reaching}

@@ -8,8 +8,8 @@ use mathlib.Core.Logic.{_⊎_}
 use Prim.Native.Nat.{ℕ, zero, suc, _+_, _<_}
 use lib.ListN.{length, getD}
 use Rattle.action.specs.declared.Action.{Action}
-use Rattle.paint.specs.Picture.{outlineOf, isMarked}
-use Rattle.shape.specs.Cover.{reachesRow}
+use Rattle.paint.specs.Picture.{isMarked}
+use Rattle.shape.specs.Cover.{outlineOf, reachesRow}
 use Rattle.units.specs.Units.{pixelAt}
 
 -- 'the drawing actions that reach that row, in order': those of a list of actions that reach row y of a frame of this width

@@ -12,8 +12,7 @@ use Rattle.engine.specs.Run.{run}
 use Rattle.engine.specs.declared.run.Advanced.{Advanced}
 use Rattle.engine.specs.declared.run.Find.{Find}
 use Rattle.engine.specs.declared.run.Find.the-variants as f
-use Rattle.paint.specs.Picture.{outlineOf}
-use Rattle.shape.specs.Cover.{reachesRow}
+use Rattle.shape.specs.Cover.{outlineOf, reachesRow}
 use Rattle.units.specs.Units.{pixelAt, tallest, widest}
 use Rattle.repaint.specs.Repaint.{reaching}
 use Rattle.repaint.specs.declared.compare.Pace.{Pace}

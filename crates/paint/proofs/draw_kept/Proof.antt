@@ -1,4 +1,5 @@
-use Rattle.paint.proofs.Banding.{drawn-outside, row-in-frame}
+use Rattle.paint.proofs.Banding.{drawn-outside}
+use Rattle.shape.proofs.Banding.{row-in-frame}
 use Rattle.paint.proofs.draw_kept.Statement.{statement}
 use Rattle.units.proofs.Meaning.{pixels-at}
 use borrow.Author.Needs.{needs}

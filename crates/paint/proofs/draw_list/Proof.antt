@@ -1,5 +1,5 @@
 use Rattle.engine.specs.Run.{actionsOf}
-use Rattle.paint.proofs.Banding.{row-in-frame}
+use Rattle.shape.proofs.Banding.{row-in-frame}
 use Rattle.paint.proofs.Folds.{Rest, rest-less, rest-none}
 use Rattle.paint.proofs.Going.{actionsFrom, fewer, next-action, no-action, none-allowed}
 use Rattle.paint.proofs.Sweeps.{SameLong, same-more, same-none, still-there}

@@ -2,7 +2,8 @@ use Prim.Native.Nat.{_*_, _-_}
 use Rattle.engine.specs.Run.{actionsOf}
 use Rattle.paint.proofs.Patching.{Patching, patching-all, patching-left, patching-none, patching-painted}
 use Rattle.paint.proofs.Rows.{colours-long, tags-long}
-use Rattle.paint.proofs.Stacks.{part-long, within}
+use Rattle.paint.proofs.Stacks.{within}
+use Rattle.runs.proofs.Laws.{lent-part-long}
 use Rattle.paint.proofs.paint_each_marked.Statement.{statement}
 use Rattle.paint.specs.Picture.{rowColours, rowTags}
 use lib.ListN.{length}
@@ -67,7 +68,7 @@ paint-row-requires c κs = let t = c .before .before .before .before in
           omega (arith, t .loop-test .taken, p .1 .1 .0),
           (
             p .1 .1 .1 .0,
-            (part-long _ _ _ (within (v .0 .filled) (t .loop-test .taken)), part-long _ _ _ (within (v .1 .filled) (t .loop-test .taken))),
+            (lent-part-long _ _ _ (within (v .0 .filled) (t .loop-test .taken)), lent-part-long _ _ _ (within (v .1 .filled) (t .loop-test .taken))),
           ),
         ),
       ),

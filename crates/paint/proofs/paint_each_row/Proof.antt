@@ -1,7 +1,8 @@
 use Prim.Native.Nat.{_*_, _+_, _-_}
 use Rattle.engine.specs.Run.{actionsOf}
 use Rattle.paint.proofs.Rows.{colours-long, tags-long}
-use Rattle.paint.proofs.Stacks.{Filled, filled-all, filled-more, filled-none, part-long, within}
+use Rattle.paint.proofs.Stacks.{Filled, filled-all, filled-more, filled-none, within}
+use Rattle.runs.proofs.Laws.{lent-part-long}
 use Rattle.paint.proofs.paint_each_row.Statement.{statement}
 use Rattle.paint.specs.Picture.{rowColours, rowTags}
 use lib.ListN.{length}
@@ -59,7 +60,7 @@ paint-row-requires c κs = let t = c .before .before in
           omega (arith, t .loop-test .taken, p .1 .1 .0),
           (
             p .1 .1 .1 .0,
-            (part-long _ _ _ (within (v .0) (t .loop-test .taken)), part-long _ _ _ (within (v .1) (t .loop-test .taken))),
+            (lent-part-long _ _ _ (within (v .0) (t .loop-test .taken)), lent-part-long _ _ _ (within (v .1) (t .loop-test .taken))),
           ),
         ),
       ),
