@@ -1,7 +1,8 @@
 // The colour product and the blend.
 ghost use mathlib.Core.Path.{_≡_};
+ghost use Rattle.action.specs.Flags.{isSet};
 ghost use Rattle.pixel.specs.Blend.{product, white, tinted, source, weight, blended};
-ghost use Rattle.pixel.specs.Bytes.{isSet, written};
+ghost use Rattle.pixel.specs.Bytes.{masked};
 use crate::bytes::byte;
 use action::Colour;
 use action::Factor;
@@ -77,7 +78,7 @@ fn mix(s: u8, f: u8, d: u8, g: u8) -> u8
 
 // A channel, blended where its mask is set.
 pub fn channel(mask: u32, s: u8, f: u8, d: u8, g: u8) -> u8
-    ensures { λ r. ⌜ r ≡ written (isSet mask) (blended s f d g) d ⌝ }
+    ensures { λ r. ⌜ r ≡ masked (isSet mask) (blended s f d g) d ⌝ }
 {
     if mask != 0 { mix(s, f, d, g) } else { d }
 }

@@ -1,4 +1,4 @@
--- What was written of an action is read back as that action. Assumes nothing.
+-- What was stored of an action is read back as that action. Assumes nothing.
 use mathlib.Core.Path.{_≡_, refl, ap, _∙_}
 use mathlib.Core.List.{List, [], _∷_, _++_}
 use Prim.Native.Nat.{ℕ, _≤_}
@@ -12,10 +12,10 @@ use Rattle.action.specs.declared.Drawing.the-variants as d
 use Rattle.action.specs.declared.ink.Ink.{Ink}
 use Rattle.action.specs.declared.ink.Masks.{Masks}
 use Rattle.action.specs.declared.shape.Area.{Area}
-use Rattle.store.specs.Reading.{masksOf, clearOf, inkOf, scissorOf, pointOf, rectangleOf, bitmapOf, segmentOf, drawingOf, actionOf}
+use Rattle.store.specs.Reading.{numbersEach, placesEach, masksOf, clearOf, inkOf, scissorOf, pointOf, rectangleOf, bitmapOf, segmentOf, drawingOf, actionOf}
 use Rattle.store.specs.Store.{Room, Put, keptAt}
-use Rattle.store.specs.Writing.{written, maskNumbers, inkNumbers, bitmapNumbers, segmentNumbers, areaPlaces, drawingNumbers, drawingPlaces, numbersOf, placesOf}
-use Rattle.store.proofs.Parts.{written-all, written-long, lent, lent-long, replaced, replaced-here, replaced-before, replaced-long}
+use Rattle.store.specs.Writing.{storedFrom, maskNumbers, inkNumbers, bitmapNumbers, segmentNumbers, areaPlaces, drawingNumbers, drawingPlaces, numbersOf, placesOf}
+use Rattle.store.proofs.Groups.{stored-all, stored-long, lent, lent-long, replaced, replaced-here, replaced-before, replaced-long}
 
 ink-back : (masks : Masks) (kind : ℕ) (ink : Ink) (more ns : List ℕ) → inkOf ((maskNumbers masks ++ (kind ∷ inkNumbers ink ++ more)) ++ ns) ≡ ink
 unfolding inkOf
@@ -27,9 +27,9 @@ drawing-back : (masks : Masks) (area : Area) (drawing : Drawing) (ns ps : List �
 unfolding drawingOf clearOf pointOf rectangleOf bitmapOf segmentOf
 drawing-back masks area (d.Clear clear) ns ps = refl
 drawing-back masks area (d.Point point ink) ns ps =
-    ap (λ i. d.Point point i) (ink-back masks 1 ink (point .size ∷ []) ns)
+    ap (λ i. d.Point point i) (ink-back masks 1 ink (point .size .0 ∷ []) ns)
 drawing-back masks area (d.Rectangle rectangle ink) ns ps =
-    ap (λ i. d.Rectangle rectangle i) (ink-back masks 2 ink (rectangle .width ∷ []) ns)
+    ap (λ i. d.Rectangle rectangle i) (ink-back masks 2 ink (rectangle .width .0 ∷ []) ns)
 drawing-back masks area (d.Bitmap bitmap ink) ns ps =
     rw format-of (ap (λ i. d.Bitmap bitmap i) (ink-back masks 3 ink (bitmapNumbers bitmap) ns))
 drawing-back masks area (d.Segment segment ink) ns ps =
@@ -41,37 +41,37 @@ unfolding actionOf numbersOf placesOf masksOf scissorOf
 action-back action ns ps = rw (drawing-back (action .masks) (action .scissor) (action .drawing) ns ps)
 
 drawing-fits : (masks : Masks) (area : Area) (drawing : Drawing)
-    → (length (maskNumbers masks ++ drawingNumbers drawing) ≤ 25) × (length (areaPlaces area ++ drawingPlaces drawing) ≤ 8)
+    → (length (maskNumbers masks ++ drawingNumbers drawing) ≤ numbersEach) × (length (areaPlaces area ++ drawingPlaces drawing) ≤ placesEach)
 drawing-fits masks area (d.Clear clear) = (lit≤ tt, lit≤ tt)
 drawing-fits masks area (d.Point point ink) = (lit≤ tt, lit≤ tt)
 drawing-fits masks area (d.Rectangle rectangle ink) = (lit≤ tt, lit≤ tt)
 drawing-fits masks area (d.Bitmap bitmap ink) = (lit≤ tt, lit≤ tt)
 drawing-fits masks area (d.Segment segment ink) = (lit≤ tt, lit≤ tt)
 
-pub action-fits : (action : Action) → (length (numbersOf action) ≤ 25) × (length (placesOf action) ≤ 8)
+pub action-fits : (action : Action) → (length (numbersOf action) ≤ numbersEach) × (length (placesOf action) ≤ placesEach)
 unfolding numbersOf placesOf
 action-fits action = drawing-fits (action .masks) (action .scissor) (action .drawing)
 
-written-back : (action : Action) (ns ps : List ℕ) → length ns ≡ 25 → length ps ≡ 8 → actionOf (written 0 ns (numbersOf action)) (written 0 ps (placesOf action)) ≡ action
-written-back action ns ps m n =
+stored-back : (action : Action) (ns ps : List ℕ) → length ns ≡ numbersEach → length ps ≡ placesEach → actionOf (storedFrom 0 ns (numbersOf action)) (storedFrom 0 ps (placesOf action)) ≡ action
+stored-back action ns ps m n =
     let f = action-fits action in
     let p : length (numbersOf action) ≤ length ns = omega (arith, f .0, m) in
     let q : length (placesOf action) ≤ length ps = omega (arith, f .1, n) in
-    rw (written-all ns (numbersOf action) p, written-all ps (placesOf action) q)
+    rw (stored-all ns (numbersOf action) p, stored-all ps (placesOf action) q)
     (action-back action (drop (length (numbersOf action)) ns) (drop (length (placesOf action)) ps))
 
--- the k-th parts were lent and came back with the action written in them
-pub put-in-part : (action : Action) (k : ℕ) (numbers places ns ps : List ℕ) → Room k numbers places
-    → ns ≡ written 0 (lent 25 k numbers) (numbersOf action) → ps ≡ written 0 (lent 8 k places) (placesOf action)
-    → Put action k numbers places (replaced 25 k numbers ns) (replaced 8 k places ps)
+-- the k-th groups were lent and came back with the action stored in them
+pub put-in-group : (action : Action) (k : ℕ) (numbers places ns ps : List ℕ) → Room k numbers places
+    → ns ≡ storedFrom 0 (lent numbersEach k numbers) (numbersOf action) → ps ≡ storedFrom 0 (lent placesEach k places) (placesOf action)
+    → Put action k numbers places (replaced numbersEach k numbers ns) (replaced placesEach k places ps)
 unfolding keptAt
-put-in-part action k numbers places ns ps room e f =
-    let a = lent-long 25 k numbers (room .0) in
-    let b = lent-long 8 k places (room .1) in
-    let m : length ns ≡ 25 = ap length e ∙ written-long 0 (lent 25 k numbers) (numbersOf action) ∙ a in
-    let n : length ps ≡ 8 = ap length f ∙ written-long 0 (lent 8 k places) (placesOf action) ∙ b in
+put-in-group action k numbers places ns ps room e f =
+    let a = lent-long numbersEach k numbers (room .0) in
+    let b = lent-long placesEach k places (room .1) in
+    let m : length ns ≡ numbersEach = ap length e ∙ stored-long 0 (lent numbersEach k numbers) (numbersOf action) ∙ a in
+    let n : length ps ≡ placesEach = ap length f ∙ stored-long 0 (lent placesEach k places) (placesOf action) ∙ b in
     record {
-      kept = rw (replaced-here 25 k numbers ns (room .0) m, replaced-here 8 k places ps (room .1) n, e, f) (written-back action (lent 25 k numbers) (lent 8 k places) a b);
-      others = λ j l. rw (replaced-before 25 k numbers ns (room .0) j l, replaced-before 8 k places ps (room .1) j l);
-      lengths = (replaced-long 25 k numbers ns (room .0) m, replaced-long 8 k places ps (room .1) n);
+      kept = rw (replaced-here numbersEach k numbers ns (room .0) m, replaced-here placesEach k places ps (room .1) n, e, f) (stored-back action (lent numbersEach k numbers) (lent placesEach k places) a b);
+      others = λ j l. rw (replaced-before numbersEach k numbers ns (room .0) j l, replaced-before placesEach k places ps (room .1) j l);
+      lengths = (replaced-long numbersEach k numbers ns (room .0) m, replaced-long placesEach k places ps (room .1) n);
     }

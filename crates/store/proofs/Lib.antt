@@ -1,2 +1,2 @@
 pub mod Back
-mod Parts
+mod Groups

@@ -1,10 +1,11 @@
--- What the 25 numbers and 8 places of one kept action say. How they lie is the crate's own choice; src/lib.rt has the table.
+-- What the numbers and places of one kept action say. How they lie is the crate's own choice; src/lib.rt has the table.
 -- Values keep their width, so nothing is lost, and a case of an enum is kept as the number that the guide's tables give it.
 use Prim.Native.Nat.{ℕ, suc}
 use mathlib.Core.Bool.{cond}
 use mathlib.Core.List.{List}
 use lib.Dec.{eqb}
 use lib.ListN.{getD}
+use Rattle.units.specs.declared.LengthInSixteenths.{LengthInSixteenths}
 use Rattle.units.specs.declared.Pixels.{Pixels}
 use Rattle.units.specs.declared.Sixteenths.{Sixteenths}
 use Rattle.action.specs.Numbers.{testOf, stencilActionOf, factorOf, formatOf}
@@ -21,6 +22,13 @@ use Rattle.action.specs.declared.shape.Point.{Point}
 use Rattle.action.specs.declared.shape.Rectangle.{Rectangle}
 use Rattle.action.specs.declared.shape.Segment.{Segment}
 
+-- how many of each an action takes
+abbrev pub numbersEach : ℕ
+numbersEach = 25
+
+abbrev pub placesEach : ℕ
+placesEach = 8
+
 -- the i-th number or place
 abbrev pub at : List ℕ → ℕ → ℕ
 at xs i = getD xs i 0
@@ -30,6 +38,9 @@ pixelsAt places i = record { 0 = at places i }
 
 abbrev pub sixteenthsAt : List ℕ → ℕ → Sixteenths
 sixteenthsAt places i = record { 0 = at places i }
+
+abbrev pub lengthAt : List ℕ → ℕ → LengthInSixteenths
+lengthAt numbers i = record { 0 = at numbers i }
 
 unfoldable pub masksOf : List ℕ → Masks
 masksOf ns =
@@ -73,7 +84,7 @@ unfoldable pub scissorOf : List ℕ → Area
 scissorOf ps = record { left = pixelsAt ps 0; top = pixelsAt ps 1; right = pixelsAt ps 2; bottom = pixelsAt ps 3 }
 
 unfoldable pub pointOf : List ℕ → List ℕ → Point
-pointOf ns ps = record { x = sixteenthsAt ps 4; y = sixteenthsAt ps 5; size = at ns 21 }
+pointOf ns ps = record { x = sixteenthsAt ps 4; y = sixteenthsAt ps 5; size = lengthAt ns 21 }
 
 unfoldable pub rectangleOf : List ℕ → List ℕ → Rectangle
 rectangleOf ns ps =
@@ -82,7 +93,7 @@ rectangleOf ns ps =
       top = sixteenthsAt ps 5;
       right = sixteenthsAt ps 6;
       bottom = sixteenthsAt ps 7;
-      width = at ns 21;
+      width = lengthAt ns 21;
     }
 
 unfoldable pub bitmapOf : List ℕ → List ℕ → Bitmap
@@ -100,7 +111,7 @@ abbrev pub endAt : List ℕ → ℕ → End
 endAt ps i = record { x = sixteenthsAt ps i; y = sixteenthsAt ps (suc i) }
 
 unfoldable pub segmentOf : List ℕ → List ℕ → Segment
-segmentOf ns ps = record { from = endAt ps 4; to = endAt ps 6; width = at ns 21; primitive = at ns 22 }
+segmentOf ns ps = record { from = endAt ps 4; to = endAt ps 6; width = lengthAt ns 21; primitive = at ns 22 }
 
 -- by the kind: 0 a clear, 1 a point, 2 a rectangle, 3 a bitmap, any other a segment
 unfoldable pub drawingOf : List ℕ → List ℕ → Drawing

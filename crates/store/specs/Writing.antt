@@ -16,9 +16,9 @@ use Rattle.action.specs.declared.shape.Rectangle.{Rectangle}
 use Rattle.action.specs.declared.shape.Segment.{Segment}
 
 -- a list after some values were stored in it, one after the other from the i-th place on
-abbrev pub written : ℕ → List ℕ → List ℕ → List ℕ
-written i xs [] = xs
-written i xs (v ∷ vs) = written (suc i) (set xs i v) vs
+abbrev pub storedFrom : ℕ → List ℕ → List ℕ → List ℕ
+storedFrom i xs [] = xs
+storedFrom i xs (v ∷ vs) = storedFrom (suc i) (set xs i v) vs
 
 abbrev pub maskNumbers : Masks → List ℕ
 maskNumbers m = m .red ∷ m .green ∷ m .blue ∷ m .alpha ∷ m .stencil ∷ m .tag ∷ []
@@ -58,7 +58,7 @@ abbrev pub bitmapNumbers : Bitmap → List ℕ
 bitmapNumbers b = b .start ∷ formatNumber (b .format) ∷ b .stride ∷ b .height ∷ []
 
 abbrev pub segmentNumbers : Segment → List ℕ
-segmentNumbers s = s .width ∷ s .primitive ∷ []
+segmentNumbers s = s .width .0 ∷ s .primitive ∷ []
 
 abbrev pub areaPlaces : Area → List ℕ
 areaPlaces a = a .left .0 ∷ a .top .0 ∷ a .right .0 ∷ a .bottom .0 ∷ []
@@ -75,8 +75,8 @@ segmentPlaces s = s .from .x .0 ∷ s .from .y .0 ∷ s .to .x .0 ∷ s .to .y .
 -- the kind, and what follows it
 abbrev pub drawingNumbers : Drawing → List ℕ
 drawingNumbers (d.Clear clear) = 0 ∷ clearNumbers clear
-drawingNumbers (d.Point point ink) = 1 ∷ inkNumbers ink ++ (point .size ∷ [])
-drawingNumbers (d.Rectangle rectangle ink) = 2 ∷ inkNumbers ink ++ (rectangle .width ∷ [])
+drawingNumbers (d.Point point ink) = 1 ∷ inkNumbers ink ++ (point .size .0 ∷ [])
+drawingNumbers (d.Rectangle rectangle ink) = 2 ∷ inkNumbers ink ++ (rectangle .width .0 ∷ [])
 drawingNumbers (d.Bitmap bitmap ink) = 3 ∷ inkNumbers ink ++ bitmapNumbers bitmap
 drawingNumbers (d.Segment segment ink) = 4 ∷ inkNumbers ink ++ segmentNumbers segment
 

@@ -1,7 +1,7 @@
 // An action out of its own numbers and places.
 ghost use mathlib.Core.Path.{_≡_};
 ghost use lib.ListN.{length};
-ghost use Rattle.store.specs.Reading.{masksOf, clearOf, inkOf, scissorOf, pointOf, rectangleOf, bitmapOf, segmentOf, drawingOf, actionOf};
+ghost use Rattle.store.specs.Reading.{numbersEach, placesEach, masksOf, clearOf, inkOf, scissorOf, pointOf, rectangleOf, bitmapOf, segmentOf, drawingOf, actionOf};
 use action::Action;
 use action::AlphaTest;
 use action::Area;
@@ -23,11 +23,12 @@ use action::StencilAction;
 use action::StencilActions;
 use action::StencilTest;
 use action::Test;
+use units::LengthInSixteenths;
 use units::Pixels;
 use units::Sixteenths;
 
 fn masks_in(numbers: &[u32]) -> Masks
-    requires { ⌜ length (now numbers) ≡ 25 ⌝ }
+    requires { ⌜ length (now numbers) ≡ numbersEach ⌝ }
     ensures { λ r. ⌜ r ≡ masksOf (now (numbers .entry)) ⌝ }
 {
     Masks {
@@ -41,7 +42,7 @@ fn masks_in(numbers: &[u32]) -> Masks
 }
 
 fn clear_in(numbers: &[u32]) -> Clear
-    requires { ⌜ length (now numbers) ≡ 25 ⌝ }
+    requires { ⌜ length (now numbers) ≡ numbersEach ⌝ }
     ensures { λ r. ⌜ r ≡ clearOf (now (numbers .entry)) ⌝ }
 {
     let values = ClearValues {
@@ -61,7 +62,7 @@ fn clear_in(numbers: &[u32]) -> Clear
 }
 
 fn ink_in(numbers: &[u32]) -> Ink
-    requires { ⌜ length (now numbers) ≡ 25 ⌝ }
+    requires { ⌜ length (now numbers) ≡ numbersEach ⌝ }
     ensures { λ r. ⌜ r ≡ inkOf (now (numbers .entry)) ⌝ }
 {
     let colour = Colour {
@@ -98,7 +99,7 @@ fn ink_in(numbers: &[u32]) -> Ink
 }
 
 fn scissor_in(places: &[u64]) -> Area
-    requires { ⌜ length (now places) ≡ 8 ⌝ }
+    requires { ⌜ length (now places) ≡ placesEach ⌝ }
     ensures { λ r. ⌜ r ≡ scissorOf (now (places .entry)) ⌝ }
 {
     Area {
@@ -110,18 +111,18 @@ fn scissor_in(places: &[u64]) -> Area
 }
 
 fn point_in(numbers: &[u32], places: &[u64]) -> Point
-    requires { ⌜ (length (now numbers) ≡ 25) × (length (now places) ≡ 8) ⌝ }
+    requires { ⌜ (length (now numbers) ≡ numbersEach) × (length (now places) ≡ placesEach) ⌝ }
     ensures { λ r. ⌜ r ≡ pointOf (now (numbers .entry)) (now (places .entry)) ⌝ }
 {
     Point {
         x: Sixteenths(places[4]),
         y: Sixteenths(places[5]),
-        size: numbers[21],
+        size: LengthInSixteenths(numbers[21]),
     }
 }
 
 fn rectangle_in(numbers: &[u32], places: &[u64]) -> Rectangle
-    requires { ⌜ (length (now numbers) ≡ 25) × (length (now places) ≡ 8) ⌝ }
+    requires { ⌜ (length (now numbers) ≡ numbersEach) × (length (now places) ≡ placesEach) ⌝ }
     ensures { λ r. ⌜ r ≡ rectangleOf (now (numbers .entry)) (now (places .entry)) ⌝ }
 {
     Rectangle {
@@ -129,12 +130,12 @@ fn rectangle_in(numbers: &[u32], places: &[u64]) -> Rectangle
         top: Sixteenths(places[5]),
         right: Sixteenths(places[6]),
         bottom: Sixteenths(places[7]),
-        width: numbers[21],
+        width: LengthInSixteenths(numbers[21]),
     }
 }
 
 fn bitmap_in(numbers: &[u32], places: &[u64]) -> Bitmap
-    requires { ⌜ (length (now numbers) ≡ 25) × (length (now places) ≡ 8) ⌝ }
+    requires { ⌜ (length (now numbers) ≡ numbersEach) × (length (now places) ≡ placesEach) ⌝ }
     ensures { λ r. ⌜ r ≡ bitmapOf (now (numbers .entry)) (now (places .entry)) ⌝ }
 {
     let area = Area {
@@ -153,7 +154,7 @@ fn bitmap_in(numbers: &[u32], places: &[u64]) -> Bitmap
 }
 
 fn segment_in(numbers: &[u32], places: &[u64]) -> Segment
-    requires { ⌜ (length (now numbers) ≡ 25) × (length (now places) ≡ 8) ⌝ }
+    requires { ⌜ (length (now numbers) ≡ numbersEach) × (length (now places) ≡ placesEach) ⌝ }
     ensures { λ r. ⌜ r ≡ segmentOf (now (numbers .entry)) (now (places .entry)) ⌝ }
 {
     let from = End {
@@ -167,13 +168,13 @@ fn segment_in(numbers: &[u32], places: &[u64]) -> Segment
     Segment {
         from: from,
         to: to,
-        width: numbers[21],
+        width: LengthInSixteenths(numbers[21]),
         primitive: numbers[22],
     }
 }
 
 fn drawing_in(numbers: &[u32], places: &[u64]) -> Drawing
-    requires { ⌜ (length (now numbers) ≡ 25) × (length (now places) ≡ 8) ⌝ }
+    requires { ⌜ (length (now numbers) ≡ numbersEach) × (length (now places) ≡ placesEach) ⌝ }
     ensures { λ r. ⌜ r ≡ drawingOf (now (numbers .entry)) (now (places .entry)) ⌝ }
 {
     let kind = numbers[6];
@@ -194,7 +195,7 @@ fn drawing_in(numbers: &[u32], places: &[u64]) -> Drawing
 }
 
 pub fn action_in(numbers: &[u32], places: &[u64]) -> Action
-    requires { ⌜ (length (now numbers) ≡ 25) × (length (now places) ≡ 8) ⌝ }
+    requires { ⌜ (length (now numbers) ≡ numbersEach) × (length (now places) ≡ placesEach) ⌝ }
     ensures { λ r. ⌜ r ≡ actionOf (now (numbers .entry)) (now (places .entry)) ⌝ }
 {
     Action {

@@ -1,8 +1,9 @@
-// An action into its own numbers and places. Stores go from the front on, as `written` has them.
+// An action into its own numbers and places. Stores go from the front on, as `storedFrom` has them.
 ghost use mathlib.Core.Path.{_≡_};
-ghost use mathlib.Core.List.{[], _∷_};
+ghost use mathlib.Core.List.{_∷_};
 ghost use lib.ListN.{length};
-ghost use Rattle.store.specs.Writing.{written, maskNumbers, clearNumbers, inkNumbers, areaPlaces, drawingNumbers, drawingPlaces, numbersOf, placesOf};
+ghost use Rattle.store.specs.Reading.{numbersEach, placesEach};
+ghost use Rattle.store.specs.Writing.{storedFrom, maskNumbers, inkNumbers, areaPlaces, drawingNumbers, drawingPlaces, numbersOf, placesOf};
 use action::Action;
 use action::Area;
 use action::Bitmap;
@@ -15,8 +16,8 @@ use action::Rectangle;
 use action::Segment;
 
 fn put_masks(masks: Masks, numbers: &mut [u32])
-    requires { ⌜ length (now numbers) ≡ 25 ⌝ }
-    ensures { λ _. ⌜ now (numbers .exit) ≡ written 0 (now (numbers .entry)) (maskNumbers masks) ⌝ }
+    requires { ⌜ length (now numbers) ≡ numbersEach ⌝ }
+    ensures { λ _. ⌜ now (numbers .exit) ≡ storedFrom 0 (now (numbers .entry)) (maskNumbers masks) ⌝ }
 {
     numbers[0] = masks.red;
     numbers[1] = masks.green;
@@ -27,8 +28,8 @@ fn put_masks(masks: Masks, numbers: &mut [u32])
 }
 
 fn put_clear(clear: Clear, numbers: &mut [u32])
-    requires { ⌜ length (now numbers) ≡ 25 ⌝ }
-    ensures { λ _. ⌜ now (numbers .exit) ≡ written 6 (now (numbers .entry)) (drawingNumbers (Drawing.Clear clear)) ⌝ }
+    requires { ⌜ length (now numbers) ≡ numbersEach ⌝ }
+    ensures { λ _. ⌜ now (numbers .exit) ≡ storedFrom 6 (now (numbers .entry)) (drawingNumbers (Drawing.Clear clear)) ⌝ }
 {
     let values = clear.values;
     numbers[6] = 0;
@@ -45,8 +46,8 @@ fn put_clear(clear: Clear, numbers: &mut [u32])
 
 // The kind of what is drawn, and what it is drawn with.
 fn put_ink(kind: u32, ink: Ink, numbers: &mut [u32])
-    requires { ⌜ length (now numbers) ≡ 25 ⌝ }
-    ensures { λ _. ⌜ now (numbers .exit) ≡ written 6 (now (numbers .entry)) (kind ∷ inkNumbers ink) ⌝ }
+    requires { ⌜ length (now numbers) ≡ numbersEach ⌝ }
+    ensures { λ _. ⌜ now (numbers .exit) ≡ storedFrom 6 (now (numbers .entry)) (kind ∷ inkNumbers ink) ⌝ }
 {
     let colour = ink.colour;
     let alpha = ink.alpha;
@@ -77,8 +78,8 @@ fn put_ink(kind: u32, ink: Ink, numbers: &mut [u32])
 }
 
 fn put_scissor(area: Area, places: &mut [u64])
-    requires { ⌜ length (now places) ≡ 8 ⌝ }
-    ensures { λ _. ⌜ now (places .exit) ≡ written 0 (now (places .entry)) (areaPlaces area) ⌝ }
+    requires { ⌜ length (now places) ≡ placesEach ⌝ }
+    ensures { λ _. ⌜ now (places .exit) ≡ storedFrom 0 (now (places .entry)) (areaPlaces area) ⌝ }
 {
     places[0] = area.left.0;
     places[1] = area.top.0;
@@ -87,23 +88,23 @@ fn put_scissor(area: Area, places: &mut [u64])
 }
 
 fn put_point(point: Point, ink: Ink, numbers: &mut [u32], places: &mut [u64])
-    requires { ⌜ (length (now numbers) ≡ 25) × (length (now places) ≡ 8) ⌝ }
-    ensures { λ _. ⌜ now (numbers .exit) ≡ written 6 (now (numbers .entry)) (drawingNumbers (Drawing.Point point ink)) ⌝ }
-    ensures { λ _. ⌜ now (places .exit) ≡ written 4 (now (places .entry)) (drawingPlaces (Drawing.Point point ink)) ⌝ }
+    requires { ⌜ (length (now numbers) ≡ numbersEach) × (length (now places) ≡ placesEach) ⌝ }
+    ensures { λ _. ⌜ now (numbers .exit) ≡ storedFrom 6 (now (numbers .entry)) (drawingNumbers (Drawing.Point point ink)) ⌝ }
+    ensures { λ _. ⌜ now (places .exit) ≡ storedFrom 4 (now (places .entry)) (drawingPlaces (Drawing.Point point ink)) ⌝ }
 {
     put_ink(1, ink, numbers);
-    numbers[21] = point.size;
+    numbers[21] = point.size.0;
     places[4] = point.x.0;
     places[5] = point.y.0;
 }
 
 fn put_rectangle(rectangle: Rectangle, ink: Ink, numbers: &mut [u32], places: &mut [u64])
-    requires { ⌜ (length (now numbers) ≡ 25) × (length (now places) ≡ 8) ⌝ }
-    ensures { λ _. ⌜ now (numbers .exit) ≡ written 6 (now (numbers .entry)) (drawingNumbers (Drawing.Rectangle rectangle ink)) ⌝ }
-    ensures { λ _. ⌜ now (places .exit) ≡ written 4 (now (places .entry)) (drawingPlaces (Drawing.Rectangle rectangle ink)) ⌝ }
+    requires { ⌜ (length (now numbers) ≡ numbersEach) × (length (now places) ≡ placesEach) ⌝ }
+    ensures { λ _. ⌜ now (numbers .exit) ≡ storedFrom 6 (now (numbers .entry)) (drawingNumbers (Drawing.Rectangle rectangle ink)) ⌝ }
+    ensures { λ _. ⌜ now (places .exit) ≡ storedFrom 4 (now (places .entry)) (drawingPlaces (Drawing.Rectangle rectangle ink)) ⌝ }
 {
     put_ink(2, ink, numbers);
-    numbers[21] = rectangle.width;
+    numbers[21] = rectangle.width.0;
     places[4] = rectangle.left.0;
     places[5] = rectangle.top.0;
     places[6] = rectangle.right.0;
@@ -111,9 +112,9 @@ fn put_rectangle(rectangle: Rectangle, ink: Ink, numbers: &mut [u32], places: &m
 }
 
 fn put_bitmap(bitmap: Bitmap, ink: Ink, numbers: &mut [u32], places: &mut [u64])
-    requires { ⌜ (length (now numbers) ≡ 25) × (length (now places) ≡ 8) ⌝ }
-    ensures { λ _. ⌜ now (numbers .exit) ≡ written 6 (now (numbers .entry)) (drawingNumbers (Drawing.Bitmap bitmap ink)) ⌝ }
-    ensures { λ _. ⌜ now (places .exit) ≡ written 4 (now (places .entry)) (drawingPlaces (Drawing.Bitmap bitmap ink)) ⌝ }
+    requires { ⌜ (length (now numbers) ≡ numbersEach) × (length (now places) ≡ placesEach) ⌝ }
+    ensures { λ _. ⌜ now (numbers .exit) ≡ storedFrom 6 (now (numbers .entry)) (drawingNumbers (Drawing.Bitmap bitmap ink)) ⌝ }
+    ensures { λ _. ⌜ now (places .exit) ≡ storedFrom 4 (now (places .entry)) (drawingPlaces (Drawing.Bitmap bitmap ink)) ⌝ }
 {
     let area = bitmap.area;
     let format = bitmap.format;
@@ -129,14 +130,14 @@ fn put_bitmap(bitmap: Bitmap, ink: Ink, numbers: &mut [u32], places: &mut [u64])
 }
 
 fn put_segment(segment: Segment, ink: Ink, numbers: &mut [u32], places: &mut [u64])
-    requires { ⌜ (length (now numbers) ≡ 25) × (length (now places) ≡ 8) ⌝ }
-    ensures { λ _. ⌜ now (numbers .exit) ≡ written 6 (now (numbers .entry)) (drawingNumbers (Drawing.Segment segment ink)) ⌝ }
-    ensures { λ _. ⌜ now (places .exit) ≡ written 4 (now (places .entry)) (drawingPlaces (Drawing.Segment segment ink)) ⌝ }
+    requires { ⌜ (length (now numbers) ≡ numbersEach) × (length (now places) ≡ placesEach) ⌝ }
+    ensures { λ _. ⌜ now (numbers .exit) ≡ storedFrom 6 (now (numbers .entry)) (drawingNumbers (Drawing.Segment segment ink)) ⌝ }
+    ensures { λ _. ⌜ now (places .exit) ≡ storedFrom 4 (now (places .entry)) (drawingPlaces (Drawing.Segment segment ink)) ⌝ }
 {
     let from = segment.from;
     let to = segment.to;
     put_ink(4, ink, numbers);
-    numbers[21] = segment.width;
+    numbers[21] = segment.width.0;
     numbers[22] = segment.primitive;
     places[4] = from.x.0;
     places[5] = from.y.0;
@@ -145,9 +146,9 @@ fn put_segment(segment: Segment, ink: Ink, numbers: &mut [u32], places: &mut [u6
 }
 
 fn put_drawing(drawing: Drawing, numbers: &mut [u32], places: &mut [u64])
-    requires { ⌜ (length (now numbers) ≡ 25) × (length (now places) ≡ 8) ⌝ }
-    ensures { λ _. ⌜ now (numbers .exit) ≡ written 6 (now (numbers .entry)) (drawingNumbers drawing) ⌝ }
-    ensures { λ _. ⌜ now (places .exit) ≡ written 4 (now (places .entry)) (drawingPlaces drawing) ⌝ }
+    requires { ⌜ (length (now numbers) ≡ numbersEach) × (length (now places) ≡ placesEach) ⌝ }
+    ensures { λ _. ⌜ now (numbers .exit) ≡ storedFrom 6 (now (numbers .entry)) (drawingNumbers drawing) ⌝ }
+    ensures { λ _. ⌜ now (places .exit) ≡ storedFrom 4 (now (places .entry)) (drawingPlaces drawing) ⌝ }
 {
     match drawing {
         Drawing::Clear(clear) => put_clear(clear, numbers),
@@ -159,9 +160,9 @@ fn put_drawing(drawing: Drawing, numbers: &mut [u32], places: &mut [u64])
 }
 
 pub fn put_action(action: Action, numbers: &mut [u32], places: &mut [u64])
-    requires { ⌜ (length (now numbers) ≡ 25) × (length (now places) ≡ 8) ⌝ }
-    ensures { λ _. ⌜ now (numbers .exit) ≡ written 0 (now (numbers .entry)) (numbersOf action) ⌝ }
-    ensures { λ _. ⌜ now (places .exit) ≡ written 0 (now (places .entry)) (placesOf action) ⌝ }
+    requires { ⌜ (length (now numbers) ≡ numbersEach) × (length (now places) ≡ placesEach) ⌝ }
+    ensures { λ _. ⌜ now (numbers .exit) ≡ storedFrom 0 (now (numbers .entry)) (numbersOf action) ⌝ }
+    ensures { λ _. ⌜ now (places .exit) ≡ storedFrom 0 (now (places .entry)) (placesOf action) ⌝ }
 {
     let masks = action.masks;
     let scissor = action.scissor;

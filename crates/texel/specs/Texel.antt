@@ -12,10 +12,10 @@ use Rattle.action.specs.declared.numbers.Format.the-variants as m
 use Rattle.action.specs.declared.shape.Bitmap.{Bitmap}
 
 -- bytes of a pixel
-abbrev pub bytesOf : Format → ℕ
-bytesOf m.Argb1555 = 2
-bytesOf m.L8 = 1
-bytesOf m.Rgb565 = 2
+abbrev pub pixelBytes : Format → ℕ
+pixelBytes m.Argb1555 = 2
+pixelBytes m.L8 = 1
+pixelBytes m.Rgb565 = 2
 
 -- the field of so many bits from bit `low` on
 abbrev pub field : ℕ → ℕ → ℕ → ℕ
@@ -55,11 +55,11 @@ colourAt m.Rgb565 memory at = rgb565 (pairAt memory at)
 
 -- the byte at which a pixel of the cell starts
 abbrev pub position : Bitmap → ℕ → ℕ → ℕ
-position bitmap column line = bitmap .start + (line * bitmap .stride + column * bytesOf (bitmap .format))
+position bitmap column line = bitmap .start + (line * bitmap .stride + column * pixelBytes (bitmap .format))
 
 -- neither past the layout height nor past the stride
 abbrev pub inside : Bitmap → ℕ → ℕ → Bool
-inside bitmap column line = ltb line (bitmap .height) && ltb column (bitmap .stride / bytesOf (bitmap .format))
+inside bitmap column line = ltb line (bitmap .height) && ltb column (bitmap .stride / pixelBytes (bitmap .format))
 
 -- column and line are counted from the drawn bitmap's top left
 unfoldable pub texelAt : Bitmap → ℕ → ℕ → List ℕ → Colour

@@ -1,7 +1,7 @@
 // One texel of a cell in RAM_G: formats, widening, and what lies past stride or layout height. Where it is drawn is not known here.
 ghost use mathlib.Core.Path.{_≡_};
-ghost use Prim.Native.Nat.{_+_, _*_, _/_, _<_, _≤_};
-ghost use Rattle.texel.specs.Texel.{bytesOf, byteAt, rgb565, argb1555, l8, none, texelAt};
+ghost use Prim.Native.Nat.{_+_, _*_, _/_};
+ghost use Rattle.texel.specs.Texel.{pixelBytes, byteAt, rgb565, argb1555, l8, none, texelAt};
 use action::Bitmap;
 use action::Colour;
 use action::Format;
@@ -68,7 +68,7 @@ fn argb1555(n: u32) -> Colour
 
 // How many bytes a pixel has.
 fn bytes(format: Format) -> u64
-    ensures { λ r. ⌜ r ≡ bytesOf format ⌝ }
+    ensures { λ r. ⌜ r ≡ pixelBytes format ⌝ }
 {
     match format {
         Format::Argb1555 => 2,
@@ -79,7 +79,7 @@ fn bytes(format: Format) -> u64
 
 // How many pixels a line of the layout has. Each division is by a constant.
 fn columns(format: Format, stride: u64) -> u64
-    ensures { λ r. ⌜ r ≡ stride / bytesOf format ⌝ }
+    ensures { λ r. ⌜ r ≡ stride / pixelBytes format ⌝ }
 {
     match format {
         Format::Argb1555 => stride / 2,

@@ -1,5 +1,6 @@
+use Rattle.store.specs.Reading.{numbersEach, placesEach}
 use Rattle.store.specs.Store.{keptAt}
-use Rattle.store.proofs.Parts.{part-lent}
+use Rattle.store.proofs.Groups.{group-lent}
 use borrow.Author.Needs.{needs}
 use Rattle.store.proofs.get.Statement.{statement}
 use Rattle.store.proofs.get.Tie as tie
@@ -45,7 +46,7 @@ action-in-requires c κs = search needs
 
 returns : tie.Need-returns
 unfolding keptAt
-returns c = rw (c .action-in .ensures, part-lent 25, part-lent 8)
+returns c = rw (c .action-in .ensures, group-lent numbersEach, group-lent placesEach)
 
 pub get-spec : {M : Type 1} → statement M
 get-spec =

@@ -1,4 +1,4 @@
-use Rattle.store.proofs.Back.{put-in-part}
+use Rattle.store.proofs.Back.{put-in-group}
 use borrow.Author.Needs.{needs}
 use Rattle.store.proofs.put.Statement.{statement}
 use Rattle.store.proofs.put.Tie as tie
@@ -51,7 +51,7 @@ same-length-2 c = search needs
 returns : tie.Need-returns
 returns c =
     let p = c .before .before .before .before in
-    put-in-part _ _ _ _ _ _
+    put-in-group _ _ _ _ _ _
     (p .before .before .before .before .before .pre)
     (p .put-action .ensures .0)
     (p .put-action .ensures .1)

@@ -19,8 +19,8 @@ shared-slice-read-t9-2 c = search needs
 shared-slice-read-t14 : tie.Need-shared-slice-read-t14
 shared-slice-read-t14 c = search needs
 
-shared-slice-read-t16 : tie.Need-shared-slice-read-t16
-shared-slice-read-t16 c = search needs
+shared-slice-read-t17 : tie.Need-shared-slice-read-t17
+shared-slice-read-t17 c = search needs
 
 returns : tie.Need-returns
 unfolding segmentOf
@@ -35,5 +35,5 @@ segment-in-spec =
     shared-slice-read-t6-2
     shared-slice-read-t9-2
     shared-slice-read-t14
-    shared-slice-read-t16
+    shared-slice-read-t17
     returns)
