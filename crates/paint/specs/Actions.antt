@@ -8,7 +8,8 @@ use lib.ListN.{length, getD}
 use Rattle.action.specs.declared.Action.{Action}
 use Rattle.engine.specs.Run.{actionsOf}
 use Rattle.shape.specs.Reach.{Bands}
-use Rattle.store.specs.Store.{keptAt, numbersEach, placesEach}
+use Rattle.store.specs.Reading.{numbersEach, placesEach}
+use Rattle.store.specs.Store.{keptAt}
 use Rattle.paint.specs.declared.kept.Gathered.{Gathered}
 
 -- how many actions there is room for
