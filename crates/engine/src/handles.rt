@@ -12,6 +12,7 @@ ghost use Rattle.engine.specs.Handles.{put, get, sourced, laidOut, sized
 use action::Area;
 use action::Bitmap;
 use action::Format;
+use units::LengthInPixels;
 use units::Pixels;
 use units::Sixteenths;
 
@@ -24,8 +25,8 @@ pub struct Handle {
     pub format: u32,
     pub stride: u64,
     pub rows: u64,
-    pub width: u64,
-    pub height: u64,
+    pub width: LengthInPixels,
+    pub height: LengthInPixels,
 }
 
 // A vertex placed on the screen, with the handle and cell that it draws if BITMAPS is begun.
@@ -104,13 +105,7 @@ fn joined(handles: &[u32; SETTINGS], handle: u32, low: u32, high: u32, power: u3
 fn is_given(handles: &[u32; SETTINGS], handle: u32) -> bool
     ensures { λ r. ⌜ r ≡ given (now (handles .entry)) handle ⌝ }
 {
-    if get(handles, handle, 0) != 1 {
-        return false;
-    }
-    if get(handles, handle, 2) != 1 {
-        return false;
-    }
-    get(handles, handle, 6) == 1
+    (get(handles, handle, 0) == 1) & (get(handles, handle, 2) == 1) & (get(handles, handle, 6) == 1)
 }
 
 pub fn handle_at(handles: &[u32; SETTINGS], handle: u32) -> Handle
@@ -123,14 +118,14 @@ pub fn handle_at(handles: &[u32; SETTINGS], handle: u32) -> Handle
         format: get(handles, handle, 3),
         stride: joined(handles, handle, 4, 9, 1024),
         rows: joined(handles, handle, 5, 10, 512),
-        width: joined(handles, handle, 7, 11, 512),
-        height: joined(handles, handle, 8, 12, 512),
+        width: LengthInPixels(joined(handles, handle, 7, 11, 512)),
+        height: LengthInPixels(joined(handles, handle, 8, 12, 512)),
     }
 }
 
 // The pixels from a top left one on, so many wide and high.
-pub fn cover(left: Pixels, top: Pixels, width: u64, height: u64) -> Area
-    requires { ⌜ ((left .0 < 2 ^ 63) × (top .0 < 2 ^ 63)) × ((width < 2 ^ 63) × (height < 2 ^ 63)) ⌝ }
+pub fn cover(left: Pixels, top: Pixels, width: LengthInPixels, height: LengthInPixels) -> Area
+    requires { ⌜ ((left .0 < 2 ^ 63) × (top .0 < 2 ^ 63)) × ((width .0 < 2 ^ 63) × (height .0 < 2 ^ 63)) ⌝ }
     ensures { λ r. ⌜ r ≡ coverOf left top width height ⌝ }
 {
     let right = left.on(width);
@@ -164,10 +159,10 @@ pub fn judge(h: Handle, v: Vertex, memory: u32) -> Judged
     if h.rows == 0 {
         return Judged::Undrawable;
     }
-    if h.width == 0 {
+    if h.width.0 == 0 {
         return Judged::Undrawable;
     }
-    if h.height == 0 {
+    if h.height.0 == 0 {
         return Judged::Undrawable;
     }
     if room < h.stride {
@@ -194,7 +189,9 @@ pub fn judge(h: Handle, v: Vertex, memory: u32) -> Judged
     }
     let x = v.x;
     let y = v.y;
-    let area = cover(x.floor(), y.floor(), h.width, h.height);
+    let width = h.width;
+    let height = h.height;
+    let area = cover(x.floor(), y.floor(), width, height);
     Judged::Drawable(Bitmap {
         area: area,
         start: start as u32,

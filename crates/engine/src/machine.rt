@@ -4,7 +4,7 @@ ghost use mathlib.Core.Path.{_≡_};
 ghost use Prim.Native.Nat.{_≤_, _<_, _+_, _-_, _^_};
 ghost use Rattle.engine.specs.Handles.{judged, Narrow};
 ghost use Rattle.engine.specs.Run.{mostMemory};
-ghost use Rattle.engine.specs.Machine.{started, called, returned, drawnFormat, drawnSize, drawnPrimitive, unitOf, placed2f, placed2ii, rectangleOf, openedAt, clears, pointed, bitmapped, segmentFrom, segmented, vertexed, obeys, steps};
+ghost use Rattle.engine.specs.Machine.{started, called, returned, drawnFormat, drawnSize, drawnPrimitive, unitOf, placed2f, placed2ii, openedAt, clears, pointed, rectangled, bitmapped, segmentFrom, segmented, vertexed, obeys, steps};
 use crate::context::Context;
 use crate::context::Placing;
 use crate::handles::Handle;
@@ -23,6 +23,7 @@ use action::End;
 use action::Point;
 use action::Rectangle;
 use action::Segment;
+use units::LengthInSixteenths;
 use units::Pixels;
 use units::Sixteenths;
 use words::Read;
@@ -93,39 +94,21 @@ pub struct Obeyed {
 fn is_drawn_format(format: u32) -> bool
     ensures { λ r. ⌜ r ≡ drawnFormat format ⌝ }
 {
-    match format {
-        0 => true,
-        3 => true,
-        7 => true,
-        _ => false,
-    }
+    (format == 0) | (format == 3) | (format == 7)
 }
 
 // Neither filter 1 nor a wrap 1 is drawn yet.
 fn is_drawn_size(filter: u32, wrapx: u32, wrapy: u32) -> bool
     ensures { λ r. ⌜ r ≡ drawnSize filter wrapx wrapy ⌝ }
 {
-    if filter != 0 {
-        return false;
-    }
-    if wrapx != 0 {
-        return false;
-    }
-    wrapy == 0
+    (filter == 0) & (wrapx == 0) & (wrapy == 0)
 }
 
 // BITMAPS, POINTS, LINES, LINE_STRIP and RECTS.
 fn is_drawn_primitive(primitive: u32) -> bool
     ensures { λ r. ⌜ r ≡ drawnPrimitive primitive ⌝ }
 {
-    match primitive {
-        1 => true,
-        2 => true,
-        3 => true,
-        4 => true,
-        9 => true,
-        _ => false,
-    }
+    (primitive == 1) | (primitive == 2) | (primitive == 3) | (primitive == 4) | (primitive == 9)
 }
 
 // How many sixteenths VERTEX2F counts by.
@@ -169,23 +152,6 @@ fn place2ii(p: Placing, x: u32, y: u32, handle: u32, cell: u32) -> Vertex
     }
 }
 
-// The rectangle of two corners, which are put in order, x and y apart.
-fn rectangle(c: Corner, v: Vertex, width: u32) -> Rectangle
-    ensures { λ r. ⌜ r ≡ rectangleOf c v width ⌝ }
-{
-    let cx = c.x;
-    let cy = c.y;
-    let vx = v.x;
-    let vy = v.y;
-    Rectangle {
-        left: cx.least(vx),
-        top: cy.least(vy),
-        right: cx.most(vx),
-        bottom: cy.most(vy),
-        width: width,
-    }
-}
-
 // The segment from the open end to the vertex.
 fn segment(c: Corner, v: Vertex, width: u32, primitive: u32) -> Segment
     ensures { λ r. ⌜ r ≡ segmentFrom c v width primitive ⌝ }
@@ -199,7 +165,7 @@ fn segment(c: Corner, v: Vertex, width: u32, primitive: u32) -> Segment
     Segment {
         from: from,
         to: to,
-        width: width,
+        width: LengthInSixteenths(width),
         primitive: primitive,
     }
 }
@@ -235,15 +201,19 @@ fn point_event(v: Vertex, size: u32) -> Event
     let point = Point {
         x: x,
         y: y,
-        size: size,
+        size: LengthInSixteenths(size),
     };
     Event::Draw(Shape::Point(point))
 }
 
 fn rectangle_event(c: Corner, v: Vertex, width: u32) -> Event
-    ensures { λ r. ⌜ r ≡ Event.Draw (Shape.Rectangle (rectangleOf c v width)) ⌝ }
+    ensures { λ r. ⌜ r ≡ rectangled c v width ⌝ }
 {
-    let drawn = rectangle(c, v, width);
+    let cx = c.x;
+    let cy = c.y;
+    let vx = v.x;
+    let vy = v.y;
+    let drawn = Rectangle::of(cx, cy, vx, vy, LengthInSixteenths(width));
     Event::Draw(Shape::Rectangle(drawn))
 }
 
@@ -580,13 +550,13 @@ impl Machine {
             }
             Word::PaletteSource { addr: _ } => Then::Tell(Event::Fault(13)),
             Word::VertexTranslateX { x } => {
-                let shift = units::shift(x);
-                self.context.placing.dx = shift;
+                let translation = units::translate(x);
+                self.context.placing.dx = translation;
                 Then::Tell(Event::Quiet)
             }
             Word::VertexTranslateY { y } => {
-                let shift = units::shift(y);
-                self.context.placing.dy = shift;
+                let translation = units::translate(y);
+                self.context.placing.dy = translation;
                 Then::Tell(Event::Quiet)
             }
             Word::Nop => Then::Tell(Event::Quiet),
