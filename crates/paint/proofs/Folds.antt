@@ -13,7 +13,8 @@ use Rattle.pixel.specs.declared.Pixel.{Pixel}
 use Rattle.store.specs.Store.{keptAt}
 use Rattle.units.specs.declared.Pixels.{Pixels}
 use Rattle.units.specs.Units.{pixelAt}
-use Rattle.paint.specs.Actions.{AllBands, BandAt, Bands, Keeps, keptUpTo}
+use Rattle.shape.specs.Reach.{Bands}
+use Rattle.paint.specs.Actions.{AllBands, BandAt, Keeps, keptUpTo}
 use Rattle.paint.specs.Picture.{drawnAt, drawnBy}
 use Rattle.paint.specs.Runs.{Drawn, DrawnAll}
 

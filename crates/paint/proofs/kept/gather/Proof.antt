@@ -4,7 +4,7 @@ use Rattle.engine.specs.Run.{actionsOf}
 use Rattle.paint.proofs.Folds.{keeps-bands, kept-none}
 use Rattle.paint.proofs.Going.{Gathering, joined, next-action, no-action}
 use Rattle.paint.proofs.kept.gather.Statement.{statement}
-use Rattle.paint.specs.Actions.{keptUpTo}
+use Rattle.paint.specs.Actions.{keptUpTo, most}
 use borrow.Author.Needs.{needs}
 use mathlib.Core.Bool.{false≢true}
 use mathlib.Core.List.{List, _++_, append-nil}
