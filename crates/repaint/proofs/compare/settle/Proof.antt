@@ -14,14 +14,8 @@ Inv-loop old new pace width from to marks₀ end y₀ marks y = (from ≤ y) × 
 abbrev μ-loop : tie.MeasureT-loop
 μ-loop old new pace width from to marks₀ end y₀ marks y = end - y
 
-cast-least : tie.Need-cast-least Inv-loop μ-loop
-cast-least c = omega (arith, c .before .pre .1 .0)
-
 least-requires : tie.Need-least-requires Inv-loop μ-loop
 least-requires c κs = search needs
-
-cast-end : tie.Need-cast-end Inv-loop μ-loop
-cast-end c = search needs
 
 loop-holds : tie.Need-loop-holds Inv-loop μ-loop
 loop-holds c = (omega arith, (inr refl, done-none _ _ _ _))
@@ -87,9 +81,7 @@ settle-spec =
     (tie.spec
     Inv-loop
     μ-loop
-    cast-least
     least-requires
-    cast-end
     loop-holds
     slice-read-if1
     cast-meets

@@ -1,3 +1,4 @@
+use native.Mathlib.Omega.{arith}
 use borrow.Author.Needs.{needs}
 use borrow.Author.Tests.{not-true}
 use Rattle.repaint.proofs.Sides.{touch-both, touch-new, touch-old}
@@ -22,14 +23,34 @@ rows-of-requires-3 c κs = search needs
 rows-of-requires-4 : tie.Need-rows-of-requires-4
 rows-of-requires-4 c κs = search needs
 
+cast-least : tie.Need-cast-least
+cast-least c = search needs
+
+cast-least-2 : tie.Need-cast-least-2
+cast-least-2 c = search needs
+
 least-requires : tie.Need-least-requires
 least-requires c κs = search needs
+
+cast-t10 : tie.Need-cast-t10
+cast-t10 c = omega (arith, c .least .ensures, c .before .struct-known4 .given)
+
+cast-most : tie.Need-cast-most
+cast-most c = search needs
+
+cast-most-2 : tie.Need-cast-most-2
+cast-most-2 c = search needs
 
 most-requires : tie.Need-most-requires
 most-requires c κs = search needs
 
+cast-t14 : tie.Need-cast-t14
+cast-t14 c = omega (arith, c .most .ensures)
+
 returns-3 : tie.Need-returns-3
-returns-3 c = rw (c .before .least .ensures, c .most .ensures) (touch-both _ _ _ (c .before .before .before .rows-of3 .ensures) (c .before .before .rows-of4 .ensures))
+returns-3 c =
+    rw (c .before .before .before .least .ensures, c .most .ensures)
+    (touch-both _ _ _ (c .before .before .before .before .before .before .before .rows-of3 .ensures) (c .before .before .before .before .before .before .rows-of4 .ensures))
 
 pub touched-spec : {M : Type 1} → statement M
 touched-spec =
@@ -41,6 +62,12 @@ touched-spec =
     returns-2
     rows-of-requires-3
     rows-of-requires-4
+    cast-least
+    cast-least-2
     least-requires
+    cast-t10
+    cast-most
+    cast-most-2
     most-requires
+    cast-t14
     returns-3)
