@@ -13,12 +13,9 @@ tells-once {a = true} {b} h k = sym (k .told (h .holds refl))
 tells-once {a = false} {b = true} h k = h .told (k .holds refl)
 tells-once {a = false} {b = false} h k = refl
 
--- what does not hold is told false, and the other way round
+-- what does not hold is told false
 pub tells-no : {P : Type 0} → (P → ⊥) → Tells false P
 tells-no h = record { holds = λ e. never e; told = λ p. absurd (h p) }
-
-pub tells-not : {a : Bool} {P : Type 0} → Tells a P → a ≡ false → P → ⊥
-tells-not h n p = never (sym n ∙ h .told p)
 
 pub tells-number : (m n : ℕ) → Tells (eqb m n) (m ≡ n)
 tells-number m n = record { holds = eqb-true m n; told = eq-eqb m n }

@@ -49,12 +49,6 @@ module _ (memory : List ℕ) (width : ℕ) (q : Pixels) where
   unfolding drawnBy
   rest-none whole old now r x h = sym (r x h)
 
-  pub all-append :
-      (before after : List Action) (old now new : ℕ → Pixel) →
-      DrawnAll memory before width q old now → DrawnAll memory after width q now new → DrawnAll memory (before ++ after) width q old new
-  all-append before after old now new d e x h =
-      e x h ∙ ap (drawnBy memory after (pixelAt x) q) (d x h) ∙ sym (drawn-append memory before after (pixelAt x) q (old x))
-
 -- the kept actions up to the k-th
 pub kept-more : (numbers places : List ℕ) (k : ℕ) → keptUpTo numbers places (k + 1) ≡ keptUpTo numbers places k ++ (keptAt numbers places k ∷ [])
 unfolding keptUpTo

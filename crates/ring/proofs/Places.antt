@@ -50,10 +50,6 @@ arranged m p =
     )
 
 -- GOING AROUND
-pub around-most : (a b : ℕ) → around a b ≤ 4095
-unfolding around
-around-most a b = omega arith
-
 pub around-whole : (a b : ℕ) → a % 4 ≡ 0 → b % 4 ≡ 0 → (around a b ≤ 4092) × (around a b % 4 ≡ 0)
 unfolding around
 around-whole a b h k = omega arith

@@ -105,10 +105,6 @@ pub obeyed-comes : (words : List ℕ) (offset : ℕ) (x : Runs) → offset ≤ 8
 unfolding obeyed
 obeyed-comes words offset x l w = does-comes (commandOf (getD words 0 0)) words offset x l w
 
-pub obeyed-offset : (words : List ℕ) (offset : ℕ) (x : Runs) (number offset′ : ℕ) → offset ≤ 8192 → offset % 4 ≡ 0 →
-    obeyed words offset x .outcome ≡ o.Taken number offset′ → (offset′ ≤ 8192) × (offset′ % 4 ≡ 0)
-obeyed-offset words offset x number offset′ l w e = rw e at (obeyed-comes words offset x l w)
-
 -- THE LENGTHS OF THE RUNS
 pub record Sized (ring : List ℕ) (x : Runs) : Type 0 where
   pub ring-long : length ring ≡ 4096
@@ -221,11 +217,6 @@ module _ (ring : List ℕ) (m : Marks) (x : Runs) where
   step-long l =
       step-cases (λ r. Long x (r .runs)) l
       (λ h. rw (settled-runs (wordsAt ring m) (now .outcome) (now .runs)) (obeyed-long x l (wordsAt ring m) (m .offset)))
-
-  pub step-memory : isSized ring x ≡ true → length (step ring m x .runs .memory) ≡ length (x .memory)
-  step-memory e =
-      let s = sized ring x e in
-      step-long (record { list-long = s .list-long; shown-long = s .shown-long; memory-long = refl }) .memory-long
 
   pub step-sized : isSized ring x ≡ true → isSized ring (step ring m x .runs) ≡ true
   step-sized e =

@@ -33,10 +33,6 @@ pub laid-none : (at : ℕ) (run : List ℕ) → at ≤ length run → laid at []
 unfolding laid
 laid-none at run h = rw (add-zero, take-append-drop)
 
-pub laid-all : (new run : List ℕ) → length new ≡ length run → laid 0 new run ≡ new
-unfolding laid
-laid-all new run e = let n : length run ≤ length new = omega arith in rw (zero-add, drop-of-length-le run n, append-nil)
-
 -- the byte at a place
 pub laid-inside : (at : ℕ) (new run : List ℕ) (j : ℕ) → j < length new → at + length new ≤ length run → getD (laid at new run) (at + j) 0 ≡ getD new j 0
 unfolding laid
@@ -58,13 +54,6 @@ laid-past at new run k l h =
     let e : k ≡ at + length new + (k - (at + length new)) = omega arith in
     let past = rw n at (getD-append-add (take at run ++ new) rest (k - (at + length new)) 0) ∙ getD-drop (at + length new) run (k - (at + length new)) 0 in
     rw (append-assoc, ← e) at past
-
-pub getD-part : (at count : ℕ) (run : List ℕ) (j : ℕ) → j < count → at + count ≤ length run → getD (part at count run) j 0 ≡ getD run (at + j) 0
-unfolding part
-getD-part at count run j l h = getD-take count (drop at run) j 0 l ∙ getD-drop at run j 0
-
-pub same-bytes : (xs ys : List ℕ) → length xs ≡ length ys → ((i : ℕ) → i < length xs → getD xs i 0 ≡ getD ys i 0) → xs ≡ ys
-same-bytes xs ys e h = ext-getD 0 xs ys e h
 
 -- one byte more, behind or in front
 pub laid-snoc : (at : ℕ) (new run : List ℕ) (b : ℕ) → at + length new < length run → laid at (new ++ (b ∷ [])) run ≡ set (laid at new run) (at + length new) b

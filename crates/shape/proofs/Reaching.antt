@@ -86,13 +86,6 @@ module _ (outline : Outline) (scissor : Area) (width : ℕ) (q : Pixels) where
   }
 
   module _ (c : Chord) (r : Reached outline scissor width q c) where
-    -- a column of the chord, and one that is not
-    pub reached-on : (x : ℕ) → x < width → c .left .0 ≤ pixelAt x .0 → pixelAt x .0 < c .right .0 → reaches outline scissor (pixelAt x) q ≡ holdsIn c (pixelAt x)
-    reached-on x h l k = rw (r .exact x h, between-made (c .left .0) (c .right .0) (pixelAt x .0) l k)
-
-    pub reached-off : (x : ℕ) → x < width → (pixelAt x .0 < c .left .0) ⊎ (c .right .0 ≤ pixelAt x .0) → reaches outline scissor (pixelAt x) q ≡ false
-    reached-off x h off = rw (r .exact x h, between-off (c .left .0) (c .right .0) (pixelAt x .0) off)
-
     pub row-found : (x : ℕ) → c .left .0 ≤ x → x < c .right .0 → holdsIn c (record { 0 = x }) ≡ true → reachesRow outline scissor width q ≡ true
     row-found x h k e =
         let at : x ≡ x - displacement + displacement = omega (arith, r .from) in
@@ -119,15 +112,3 @@ none-more c x before here k h l = go (last-or-before k x (omega arith))
     go : (k < x) ⊎ (k ≡ x) → holdsIn c (record { 0 = k }) ≡ false
     go (inl m) = before k h m
     go (inr e) = rw e here
-
--- no row outside of an outline's rows is reached
-pub row-outside : (outline : Outline) (scissor : Area) (width : ℕ) (q : Pixels) (r : Rows) → Bounds outline r → width < 2 ^ 32 → Sampled q → (q .0 < r .top .0) ⊎ (r .bottom .0 ≤ q .0) → reachesRow outline scissor width q ≡ false
-unfolding reaches
-row-outside outline scissor width q r bounds fits sampled off =
-    row-by-none outline scissor width q
-    (λ x h.
-    not-so _
-    (λ e.
-    let t = both-true (areaCovers scissor (pixelAt x) q) (covers outline (pixelAt x) q) e in
-    let b = bounds .bound (pixelAt x) q (omega arith) sampled (t .1) in
-    ⊎-elim (λ l. omega arith) (λ l. omega arith) off))

@@ -29,10 +29,6 @@ within-legs a b size e =
     let h : a * a + b * b ≤ size * size = leb-true (a * a + b * b) (size * size) e in
     (root-le a size (omega arith), root-le b size (omega arith))
 
-pub across-too-far : (a b size : ℕ) → size < a → within a b size ≡ false
-unfolding within
-across-too-far a b size h = lt-leb (a * a + b * b) (size * size) (omega (arith, square-lt size a h))
-
 pub down-too-far : (a b size : ℕ) → size < b → within a b size ≡ false
 unfolding within
 down-too-far a b size h = lt-leb (a * a + b * b) (size * size) (omega (arith, square-lt size b h))
