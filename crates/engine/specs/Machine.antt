@@ -44,22 +44,6 @@ started =
       corner = record { x = sixteenthAt (pos 0); y = sixteenthAt (pos 0); waits = 0 };
     }
 
--- CALL and RETURN: the return address is the place after the CALL, newest first
-unfoldable pub called : Machine → ℕ → Machine
-called m to =
-    record { context = m .context; calls = take 4 (m .at ∷ m .calls); depth = m .depth + 1; primitive = m .primitive; at = to; corner = m .corner }
-
-unfoldable pub returned : Machine → Machine
-returned m =
-    record {
-      context = m .context;
-      calls = drop 1 (m .calls) ++ (0 ∷ []);
-      depth = m .depth - 1;
-      primitive = m .primitive;
-      at = getD (m .calls) 0 0;
-      corner = m .corner;
-    }
-
 -- 'BEGIN and END drop an open corner; END leaves no primitive begun', and of lines: 'BEGIN and END drop an open end'
 abbrev pub closed : Corner → Corner
 closed c = record { x = c .x; y = c .y; waits = 0 }
@@ -206,14 +190,14 @@ obeys m hs (v.BitmapTransformF f) = faulty m hs 13
 obeys m hs (v.ScissorXy x y) = quietly (withPlacing m (scissoredAt (m .context .placing) x y)) hs
 obeys m hs (v.ScissorSize width height) = quietly (withPlacing m (scissoredTo (m .context .placing) width height)) hs
 obeys m hs (v.Call dest) =
-    cond (leb 4 (m .depth)) (faulty m hs 14) (cond (eqb (dest % 4) 0) (quietly (called m dest) hs) (faulty m hs 16))
+    cond (leb 4 (m .depth)) (faulty m hs 14) (cond (eqb (dest % 4) 0) (telling m hs (e.Call dest)) (faulty m hs 16))
 obeys m hs (v.Jump dest) = cond (eqb (dest % 4) 0) (quietly (withPlace m dest) hs) (faulty m hs 16)
 obeys m hs (v.Begin prim) = cond (drawnPrimitive prim) (quietly (beginning m prim) hs) (faulty m hs 13)
 obeys m hs (v.ColorMask r g b a) = quietly (withMasks m (colourMasked (m .context .masks) r g b a)) hs
 obeys m hs v.End = quietly (beginning m 0) hs
 obeys m hs v.SaveContext = telling m hs e.Save
 obeys m hs v.RestoreContext = telling m hs e.Restore
-obeys m hs v.Return = cond (eqb (m .depth) 0) (faulty m hs 15) (quietly (returned m) hs)
+obeys m hs v.Return = cond (eqb (m .depth) 0) (faulty m hs 15) (telling m hs e.Return)
 obeys m hs (v.Macro m′) = faulty m hs 13
 obeys m hs (v.Clear c s t) = telling m hs (clears c s t)
 obeys m hs (v.VertexFormat frac) = quietly (withPlacing m (formatted (m .context .placing) frac)) hs

@@ -4,7 +4,7 @@ ghost use mathlib.Core.Path.{_≡_};
 ghost use Prim.Native.Nat.{_≤_, _<_, _+_, _-_, _^_};
 ghost use Rattle.engine.specs.Handles.{judged, Narrow};
 ghost use Rattle.engine.specs.Run.{mostMemory};
-ghost use Rattle.engine.specs.Machine.{started, called, returned, drawnFormat, drawnSize, drawnPrimitive, unitOf, placed2f, placed2ii, openedAt, clears, pointed, rectangled, bitmapped, segmentFrom, segmented, vertexed, obeys, steps};
+ghost use Rattle.engine.specs.Machine.{started, drawnFormat, drawnSize, drawnPrimitive, unitOf, placed2f, placed2ii, openedAt, clears, pointed, rectangled, bitmapped, segmentFrom, segmented, vertexed, obeys, steps};
 use crate::context::Context;
 use crate::context::Placing;
 use crate::handles::Handle;
@@ -63,12 +63,14 @@ pub enum Shape {
     Segment(Segment),
 }
 
-// What a word came to: nothing to tell, a context to save or to restore, an action, the list's end, or a number of
-// document 01's table.
+// What a word came to: nothing to tell, a context to save or to restore, a call to take or to return from, an action, the
+// list's end, or a number of document 01's table.
 pub enum Event {
     Quiet,
     Save,
     Restore,
+    Call(u32),
+    Return,
     Draw(Shape),
     Ended,
     Fault(u32),
@@ -257,38 +259,6 @@ impl Machine {
             at: 0,
             corner: corner,
         }
-    }
-
-    // CALL: the place, which is past the word, is the return address.
-    fn call(mut self, to: u32) -> Machine
-        requires { ⌜ self .depth < 4 ⌝ }
-        ensures { λ r. ⌜ r ≡ called self to ⌝ }
-    {
-        let at = self.at;
-        let a = self.calls[0];
-        let b = self.calls[1];
-        let c = self.calls[2];
-        let calls = [at, a, b, c];
-        self.calls = calls;
-        self.depth = self.depth + 1;
-        self.at = to;
-        self
-    }
-
-    // RETURN: to the newest call's return address.
-    fn back(mut self) -> Machine
-        requires { ⌜ 0 < self .depth ⌝ }
-        ensures { λ r. ⌜ r ≡ returned self ⌝ }
-    {
-        let a = self.calls[0];
-        let b = self.calls[1];
-        let c = self.calls[2];
-        let d = self.calls[3];
-        let calls = [b, c, d, 0];
-        self.calls = calls;
-        self.depth = self.depth - 1;
-        self.at = a;
-        self
     }
 
     // What a vertex draws. Its handle and cell are looked at only while BITMAPS is begun.
@@ -487,9 +457,7 @@ impl Machine {
                 if 4 <= self.depth {
                     Then::Tell(Event::Fault(14))
                 } else if dest % 4 == 0 {
-                    let called = self.call(dest);
-                    self = called;
-                    Then::Tell(Event::Quiet)
+                    Then::Tell(Event::Call(dest))
                 } else {
                     Then::Tell(Event::Fault(16))
                 }
@@ -529,9 +497,7 @@ impl Machine {
                 if self.depth == 0 {
                     Then::Tell(Event::Fault(15))
                 } else {
-                    let back = self.back();
-                    self = back;
-                    Then::Tell(Event::Quiet)
+                    Then::Tell(Event::Return)
                 }
             }
             Word::Macro { m: _ } => Then::Tell(Event::Fault(13)),
