@@ -14,17 +14,20 @@ use Rattle.words.specs.declared.word.Word.{Word}
 use Rattle.words.specs.declared.word.Word.the-variants as v
 use Rattle.engine.specs.declared.handles.Judged.{Judged}
 use Rattle.engine.specs.declared.handles.Judged.the-variants as j
-use Rattle.engine.specs.declared.handles.Vertex.{Vertex}
-use Rattle.engine.specs.declared.machine.Corner.{Corner}
+use Rattle.engine.specs.declared.vertex.Vertex.{Vertex}
+use Rattle.engine.specs.declared.vertex.Corner.{Corner}
 use Rattle.engine.specs.declared.machine.Event.{Event}
 use Rattle.engine.specs.declared.machine.Event.the-variants as e
 use Rattle.engine.specs.declared.machine.Machine.{Machine}
 use Rattle.engine.specs.declared.machine.Stepped.{Stepped}
-use Rattle.engine.specs.declared.machine.Then.{Then}
-use Rattle.engine.specs.declared.machine.Then.the-variants as t
+use Rattle.engine.specs.declared.command.Then.{Then}
+use Rattle.engine.specs.declared.command.Then.the-variants as t
 use Rattle.engine.specs.Changes.{withCorner}
 use Rattle.engine.specs.Handles.{handleAt, judged}
-use Rattle.engine.specs.Machine.{drawnFormat, drawnSize, drawnPrimitive, bitmapped, closed, openedAt, segmentFrom, segmented, cornered, linked, vertexed, Obeys, obeys, follows, stepsBy, steps}
+use Rattle.engine.specs.Command.{Obeys, obeys}
+use Rattle.engine.specs.Drawn.{drawnFormat, drawnSize, drawnPrimitive}
+use Rattle.engine.specs.Machine.{follows, stepsBy, steps}
+use Rattle.engine.specs.Vertex.{bitmapped, closed, openedAt, segmentFrom, segmented, linked, vertexed}
 
 abbrev Ready : Event → Machine → Type 0
 Ready e.Quiet m = Unit

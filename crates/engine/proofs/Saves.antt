@@ -16,7 +16,8 @@ use Rattle.engine.specs.declared.machine.Event.the-variants as e
 use Rattle.engine.specs.declared.machine.Machine.{Machine}
 use Rattle.engine.specs.Kept.{keptWith, newest, dropped, begun, pushed, popped, called, returned}
 use Rattle.engine.specs.Changes.{withPlace}
-use Rattle.engine.specs.Machine.{Steps, obeys, stepsBy, steps}
+use Rattle.engine.specs.Command.{obeys}
+use Rattle.engine.specs.Machine.{Steps, stepsBy, steps}
 use Rattle.engine.specs.Run.{State, placeOf, settled, eventOf, nextOf}
 use Rattle.engine.specs.Saves.{saved, Whole, Saved, Restored, afterSaves, KeptAsSaid}
 

@@ -7,7 +7,7 @@ use Rattle.action.specs.declared.ink.Masks.{Masks}
 use Rattle.engine.specs.declared.context.Brush.{Brush}
 use Rattle.engine.specs.declared.context.Context.{Context}
 use Rattle.engine.specs.declared.context.Placing.{Placing}
-use Rattle.engine.specs.declared.machine.Corner.{Corner}
+use Rattle.engine.specs.declared.vertex.Corner.{Corner}
 use Rattle.engine.specs.declared.machine.Machine.{Machine}
 
 -- A MACHINE

@@ -3,7 +3,7 @@ use mir.Syntax.{w32}
 use mir.Val.{toZ, ofZ}
 use borrow.Author.Needs.{needs}
 use borrow.Author.Tests.{le-leb, lt-leb, ne-eqb}
-use Rattle.engine.specs.Machine.{obeys}
+use Rattle.engine.specs.Command.{obeys}
 use Rattle.engine.proofs.machine.Machine.obey.Statement.{statement}
 use Rattle.engine.proofs.machine.Machine.obey.Tie as tie
 
