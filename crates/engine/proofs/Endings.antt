@@ -1,6 +1,6 @@
 -- What `advance` answers where no action is asked for: the run's end. Assumes nothing.
 use mathlib.Core.Path.{_≡_, ap, sym}
-use mathlib.Core.Bool.{true, false, false≢true}
+use mathlib.Core.Bool.{false, false≢true}
 use mathlib.Core.List.{List}
 use Prim.Native.Nat.{ℕ, _-_, _≤_}
 use Rattle.action.specs.declared.Action.{Action}

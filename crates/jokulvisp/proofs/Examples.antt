@@ -7,7 +7,7 @@ use Rattle.pixel.specs.Blend.{product, blended}
 use Rattle.runs.specs.Runs.{wordAt, bytesOf}
 use Rattle.units.specs.Units.{meantPixels, floor16, sixteenthAt}
 use Rattle.words.specs.Words.{checked, readWord}
-use Rattle.jokulvisp.specs.Examples.{CheckedByHand, LiesIn}
+use Rattle.jokulvisp.specs.Examples.{CheckedByHand}
 
 pub checked-by-hand : CheckedByHand
 unfolding checked readWord called obeys steps wordAt bytesOf after run keptWith newest dropped pushed popped product blended meantPixels floor16 sixteenthAt

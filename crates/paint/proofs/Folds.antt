@@ -1,20 +1,17 @@
 -- Actions one after another: two lists joined, one action more, and the actions that are kept.
-use mathlib.Core.Bool.{Bool, true, false, cond}
 use mathlib.Core.Logic.{⊎-elim}
-use mathlib.Core.List.{List, [], _∷_, _++_, append-assoc, append-nil}
+use mathlib.Core.List.{List, [], _∷_, _++_}
 use mathlib.Core.Path.{_≡_, refl, sym, _∙_, ap}
-use Prim.Native.Nat.{ℕ, zero, suc, _+_, _*_, _<_, _≤_}
+use Prim.Native.Nat.{ℕ, zero, suc, _+_, _*_, _<_}
 use native.Mathlib.Nat.{eq-or-lt-of-le}
 use native.Mathlib.Numerals.{add-one}
 use native.Mathlib.Omega.{arith}
-use lib.ListN.{getD}
 use Rattle.action.specs.declared.Action.{Action}
 use Rattle.pixel.specs.declared.Pixel.{Pixel}
 use Rattle.store.specs.Store.{keptAt}
 use Rattle.units.specs.declared.Pixels.{Pixels}
 use Rattle.units.specs.Units.{pixelAt}
-use Rattle.shape.specs.Reach.{Bands}
-use Rattle.paint.specs.Actions.{AllBands, BandAt, Keeps, keptUpTo}
+use Rattle.paint.specs.Actions.{AllBands, Keeps, keptUpTo}
 use Rattle.paint.specs.Picture.{drawnAt, drawnBy}
 use Rattle.paint.specs.Runs.{Drawn, DrawnAll}
 

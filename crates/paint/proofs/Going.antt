@@ -1,13 +1,12 @@
 -- A run from one action to the next.
-use mathlib.Core.Bool.{true, false}
-use mathlib.Core.List.{List, [], _∷_, _++_, append-assoc, append-nil}
-use mathlib.Core.Path.{_≡_, refl, sym, _∙_, ap}
-use Prim.Native.Nat.{ℕ, _+_, _<_, _-_}
+use mathlib.Core.Bool.{true}
+use mathlib.Core.List.{List, [], _∷_, _++_, append-assoc}
+use mathlib.Core.Path.{_≡_, refl, _∙_, ap}
+use Prim.Native.Nat.{ℕ, _+_, _<_}
 use Rattle.action.specs.declared.Action.{Action}
-use Rattle.engine.specs.Run.{Advances, Ran, Spent, State, heard, run, then}
+use Rattle.engine.specs.Run.{Advances, Ran, Spent, heard, run, then}
 use Rattle.engine.specs.declared.kept.Engine.{Engine}
 use Rattle.engine.specs.declared.run.Advanced.{Advanced}
-use Rattle.engine.specs.declared.run.Find.{Find}
 use Rattle.engine.specs.declared.run.Find.the-variants as f
 use Rattle.engine.specs.declared.run.Stop.{Stop}
 use Rattle.paint.specs.Actions.{AllBands, Keeps, Rooms, keptUpTo}

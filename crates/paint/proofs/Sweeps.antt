@@ -1,9 +1,9 @@
 -- A row swept column by column.
 use mathlib.Core.Bool.{Bool, true, false, cond, _&&_, false≢true}
-use mathlib.Core.Logic.{_⊎_, inl, inr, ⊎-elim, ⊎-swap}
+use mathlib.Core.Logic.{_⊎_, inl, inr, ⊎-elim}
 use mathlib.Core.List.{List}
 use mathlib.Core.Path.{_≡_, refl, sym, _∙_, ap}
-use Prim.Native.Nat.{ℕ, _+_, _-_, _<_, _≤_}
+use Prim.Native.Nat.{ℕ, _+_, _<_, _≤_}
 use native.Mathlib.Nat.{le-refl, eq-or-lt-of-le}
 use native.Mathlib.Omega.{arith}
 use lib.Dec.{leb, ltb}
@@ -18,12 +18,12 @@ use Rattle.pixel.specs.declared.plain.Plain.{Plain}
 use Rattle.pixel.specs.declared.plain.Plain.the-variants as p
 use Rattle.pixel.specs.Plain.{filled}
 use Rattle.shape.specs.declared.Chord.{Chord}
-use Rattle.shape.specs.Cover.{between, outlineOf, reaches}
+use Rattle.shape.specs.Cover.{between, outlineOf}
 use Rattle.shape.specs.OneRow.{Reached, Sampled, holdsIn}
 use Rattle.units.specs.declared.Pixels.{Pixels}
 use Rattle.units.proofs.Meaning.{pixels-at}
 use Rattle.units.specs.Units.{PixelOf, pixelAt, countBefore}
-use Rattle.paint.specs.Picture.{changed, drawnAt}
+use Rattle.paint.specs.Picture.{drawnAt}
 use Rattle.paint.specs.Runs.{Lent, PlainDrawing, PlainOver, Touched, Swept, Drawn, change, held, pixelIn}
 
 pub swept-none : (from : ℕ) (step : ℕ → Pixel → Pixel) (old : ℕ → Pixel) → Swept from from step old old

@@ -1,6 +1,5 @@
 // The drawing actions of a list, kept as numbers: a list is run once, and a row reads the actions that can reach it.
-ghost use Prim.Native.Nat.{_<_, _≤_, _+_, _*_, _^_};
-ghost use lib.ListN.{length};
+ghost use Prim.Native.Nat.{_<_, _+_, _*_};
 ghost use Rattle.engine.specs.Run.{WithinLimits};
 ghost use Rattle.paint.specs.Actions.{Rooms, Keeps, Gathers, most};
 use action::Action;

@@ -1,7 +1,7 @@
 // Rows of the picture that a list draws. The list is run once; then each row is drawn by itself, from 0, out of the actions
 // that reach it.
 ghost use mathlib.Core.Path.{_≡_};
-ghost use Prim.Native.Nat.{_<_, _≤_, _+_, _*_, _^_};
+ghost use Prim.Native.Nat.{_<_, _≤_, _+_, _*_};
 ghost use lib.ListN.{length};
 ghost use Rattle.engine.specs.Run.{WithinLimits, actionsOf};
 ghost use Rattle.units.specs.Units.{pixelAt, tallest, widest};

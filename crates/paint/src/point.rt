@@ -1,7 +1,6 @@
 // One pixel of a row that lies in four runs of bytes.
-ghost use mathlib.Core.List.{List};
 ghost use mathlib.Core.Path.{_≡_};
-ghost use Prim.Native.Nat.{ℕ, _<_};
+ghost use Prim.Native.Nat.{_<_};
 ghost use Rattle.pixel.specs.Plain.{filled};
 ghost use Rattle.paint.specs.Runs.{Lent, Touched, pixelIn};
 use pixel::Fill;

@@ -6,7 +6,7 @@
 // a later one. What still stands beside when both lists have ended is alike. Each walk settles the row that decides which
 // list goes on, so there are no more walks than rows; most often a changed word takes one, and an action put in two.
 ghost use mathlib.Core.Path.{_≡_};
-ghost use Prim.Native.Nat.{_+_, _<_, _≤_, _*_, _^_};
+ghost use Prim.Native.Nat.{_+_, _<_, _≤_, _*_};
 ghost use lib.ListN.{length};
 ghost use Rattle.engine.specs.Run.{WithinLimits, actionsOf, mostList};
 ghost use Rattle.paint.specs.Picture.{patched, rowColours, rowTags};

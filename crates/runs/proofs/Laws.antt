@@ -1,11 +1,11 @@
 -- Laws of bytes laid over a run and of a part of one. Assumes nothing.
-use mathlib.Core.List.{List, [], _∷_, _++_, append-assoc, append-nil}
+use mathlib.Core.List.{List, [], _∷_, _++_, append-assoc}
 use mathlib.Core.Path.{_≡_, sym, ap, _∙_}
 use Prim.Native.Nat.{ℕ, suc, _+_, _-_, _<_, _≤_}
-use native.Mathlib.Nat.{add-sub-cancel-left, add-suc, add-zero, suc-add, zero-add}
+use native.Mathlib.Nat.{add-sub-cancel-left, add-suc, add-zero, suc-add}
 use native.Mathlib.Omega.{arith}
-use lib.ListN.{length, getD, set, take, drop, length-append, length-take, length-drop, take-append-drop, drop-of-length-le, List·getD-append}
-use lib.Seq.{drop-cons, drop-drop, ext-getD, getD-append-add, getD-drop, getD-take, length-take-le, set-at, take-suc}
+use lib.ListN.{length, getD, set, take, drop, length-append, length-take, length-drop, take-append-drop, List·getD-append}
+use lib.Seq.{drop-cons, drop-drop, getD-append-add, getD-drop, getD-take, length-take-le, set-at, take-suc}
 use Rattle.runs.specs.Runs.{laid, part}
 
 pub laid-long : (at : ℕ) (new run : List ℕ) → at + length new ≤ length run → length (laid at new run) ≡ length run

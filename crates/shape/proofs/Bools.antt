@@ -1,7 +1,6 @@
 -- Tests of numbers, and of a number between two others. Assumes nothing.
 use mathlib.Core.Path.{_≡_, refl, sym, _∙_}
 use mathlib.Core.Bool.{Bool, true, false}
-use mathlib.Core.Logic.{_⊎_, ⊎-elim}
 use Prim.Native.Nat.{ℕ, _≤_, _<_}
 use native.Mathlib.Omega.{arith}
 use lib.Dec.{leb, ltb}
@@ -23,13 +22,6 @@ between-true first end n e =
 
 pub between-made : (first end n : ℕ) → first ≤ n → n < end → between first end n ≡ true
 between-made first end n h k = both-made (le-leb first n h) (lt-ltb n end k)
-
-pub between-off : (first end n : ℕ) → (n < first) ⊎ (end ≤ n) → between first end n ≡ false
-between-off first end n off =
-    not-so _
-    (λ e.
-    let t = between-true first end n e in
-    ⊎-elim (λ l. omega arith) (λ l. omega arith) off)
 
 pub between-none : (first end n : ℕ) → end ≤ first → between first end n ≡ false
 between-none first end n h = not-so _ (λ e. let t = between-true first end n e in omega arith)

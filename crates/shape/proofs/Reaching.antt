@@ -1,7 +1,7 @@
 -- Which columns of a row count, and that a row is reached if any does. Assumes nothing.
 use mathlib.Core.Path.{_≡_, refl, sym, _∙_, ap}
 use mathlib.Core.Bool.{Bool, true, false, _&&_, _||_, and-true, and-false, and-assoc, or-true}
-use mathlib.Core.Logic.{_⊎_, inl, inr, ⊎-elim}
+use mathlib.Core.Logic.{_⊎_, inl, inr}
 use Prim.Native.Nat.{ℕ, zero, suc, _+_, _-_, _^_, _≤_, _<_}
 use native.Mathlib.Omega.{arith}
 use native.Mathlib.Nat.{not-suc-le-zero}
@@ -13,10 +13,9 @@ use Rattle.units.specs.Units.{displacement, larger, pixelAt, smaller}
 use Rattle.action.specs.declared.shape.Area.{Area}
 use Rattle.shape.specs.declared.Outline.{Outline}
 use Rattle.shape.specs.declared.Chord.{Chord}
-use Rattle.shape.specs.declared.Rows.{Rows}
-use Rattle.shape.specs.Cover.{between, areaCovers, covers, reaches, reachesRow}
-use Rattle.shape.specs.OneRow.{Sampled, holdsIn, Chords, Reached, Bounds, noColumn, cutTo}
-use Rattle.shape.proofs.Bools.{between-true, between-made, between-off}
+use Rattle.shape.specs.Cover.{between, areaCovers, reaches, reachesRow}
+use Rattle.shape.specs.OneRow.{holdsIn, Chords, Reached, noColumn, cutTo}
+use Rattle.shape.proofs.Bools.{between-true, between-made}
 use Rattle.shape.proofs.Columns.{has-none}
 
 last-or-before : (x n : ℕ) → x < suc n → (x < n) ⊎ (x ≡ n)

@@ -1,6 +1,4 @@
-use Prim.Native.Nat.{_+_, _≤_}
 use native.Mathlib.Omega.{arith}
-use lib.ListN.{length}
 use Rattle.rowshow.proofs.Appending.{then, pixel-long, others-long}
 use Rattle.rowshow.specs.Text.{rowText}
 use borrow.Author.Needs.{needs}

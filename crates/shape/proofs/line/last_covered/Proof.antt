@@ -1,6 +1,6 @@
 use Rattle.shape.specs.Cover.{segmentCovers}
 use Rattle.shape.proofs.Narrowing.{none-back}
-use Prim.Native.Nat.{ℕ, _-_, _≤_, _<_}
+use Prim.Native.Nat.{ℕ, _≤_, _<_}
 use mathlib.Core.Bool.{false}
 use mathlib.Core.Path.{_≡_, _∙_, sym}
 use native.Mathlib.Omega.{arith}
