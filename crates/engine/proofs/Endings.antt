@@ -7,7 +7,8 @@ use Rattle.action.specs.declared.Action.{Action}
 use Rattle.engine.specs.declared.run.Advanced.{Advanced}
 use Rattle.engine.specs.declared.run.Find.the-variants as f
 use Rattle.engine.specs.declared.run.Stop.{Stop}
-use Rattle.engine.specs.Run.{State, Advances, Spent, run, endingOf, then, heard}
+use Rattle.engine.specs.Advance.{Advances, Spent, then, heard}
+use Rattle.engine.specs.Run.{State, run, endingOf}
 
 module _ (list : List ℕ) (memory allowed : ℕ) (from : State) (a : Advanced) (hs : List ℕ) (h : Advances list memory allowed false from a hs) where
   pub within : (stop : Stop) → a .find ≡ f.Over stop → a .left ≤ allowed

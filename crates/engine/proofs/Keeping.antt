@@ -11,7 +11,7 @@ use Rattle.engine.specs.declared.context.Context.{Context}
 use Rattle.engine.specs.declared.kept.Kept.{Kept}
 use Rattle.engine.specs.Context.{starting}
 use Rattle.engine.specs.Kept.{keptWith, newest, dropped}
-use Rattle.engine.specs.Run.{isKept}
+use Rattle.engine.specs.Advance.{isKept}
 use Rattle.engine.proofs.Four.{any}
 
 pub some-kept : (n : ℕ) → isKept n ≡ true → (0 < n) × (n ≤ 4)

@@ -14,7 +14,8 @@ use Rattle.engine.specs.declared.machine.Event.the-variants as e
 use Rattle.engine.specs.declared.machine.Shape.{Shape}
 use Rattle.engine.specs.declared.machine.Stepped.{Stepped}
 use Rattle.engine.specs.declared.run.Find.the-variants as f
-use Rattle.engine.specs.Run.{State, placeOf, stepOf, settled, actionOf, stopAt, Ran, run, after, counted, more, then, heard}
+use Rattle.engine.specs.Advance.{more, then, heard}
+use Rattle.engine.specs.Run.{State, placeOf, stepOf, settled, actionOf, stopAt, Ran, run, after, counted}
 
 -- one word more, counted here or there
 on-count : (allowed left : ℕ) (r : Ran) → 0 < left → left ≤ allowed → more (allowed - left) (counted r) ≡ more (allowed - (left - 1)) r

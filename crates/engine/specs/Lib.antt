@@ -1,3 +1,4 @@
+pub mod Advance
 pub mod Changes
 pub mod Command
 pub mod Context

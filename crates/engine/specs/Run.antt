@@ -1,29 +1,23 @@
 -- The run of a list: its actions in order, and its number, place and count together. Document 01, 'Number table': the rows 0, 10 and 19, and
 -- 'Numbers 10 to 19 carry the byte offset of the word (for 10 and 19, the one that would be next). Words fetched are counted, the faulting
 -- one included'. Wish 1 of document 02 adds 20, which is told as these are.
-use mathlib.Core.Path.{_≡_}
-use mathlib.Core.Bool.{Bool, true, false, cond, _&&_}
+use mathlib.Core.Bool.{cond}
 use mathlib.Core.List.{List, [], _∷_}
-use Prim.Native.Nat.{ℕ, zero, suc, _+_, _-_, _^_, _<_, _≤_}
-use lib.Dec.{ltb, leb}
+use Prim.Native.Nat.{ℕ, zero, suc, _+_, _^_, _≤_}
+use lib.Dec.{ltb}
 use lib.ListN.{length, replicate}
 use Rattle.action.specs.declared.Action.{Action}
 use Rattle.action.specs.declared.ink.Clear.{Clear}
 use Rattle.action.specs.declared.Drawing.{Drawing}
 use Rattle.action.specs.declared.Drawing.the-variants as d
 use Rattle.runs.specs.Runs.{wordAt}
-use Rattle.engine.specs.declared.run.Advanced.{Advanced}
 use Rattle.engine.specs.declared.run.Ending.{Ending}
-use Rattle.engine.specs.declared.run.Find.{Find}
-use Rattle.engine.specs.declared.run.Find.the-variants as f
 use Rattle.engine.specs.declared.run.Stop.{Stop}
 use Rattle.engine.specs.declared.context.Context.{Context}
 use Rattle.engine.specs.declared.kept.Engine.{Engine}
-use Rattle.engine.specs.declared.kept.Kept.{Kept}
 use Rattle.engine.specs.declared.machine.Event.{Event}
 use Rattle.engine.specs.declared.machine.Event.the-variants as e
 use Rattle.engine.specs.declared.machine.Flags.{Flags}
-use Rattle.engine.specs.declared.machine.Machine.{Machine}
 use Rattle.engine.specs.declared.machine.Shape.{Shape}
 use Rattle.engine.specs.declared.machine.Shape.the-variants as s
 use Rattle.engine.specs.Changes.{withPlace}
@@ -142,35 +136,3 @@ actionsOf list memory limit = runOf list memory limit .actions
 
 abbrev pub endingOf : Ran → Ending
 endingOf r = record { stop = r .stop; count = r .count }
-
--- THE NEXT ACTION. What was found first and then the rest of the run, when so many words were fetched up to it
-abbrev pub more : ℕ → Ran → Ran
-more k r = record { actions = r .actions; stop = r .stop; count = k + r .count }
-
-unfoldable pub then : ℕ → Find → Ran → Ran
-then k (f.Drew action) rest = acted action (more k rest)
-then k (f.Over stop) rest = stopped stop k
-
--- a context is kept
-unfoldable pub isKept : ℕ → Bool
-isKept count = ltb 0 count && leb count 4
-
-abbrev pub found : Machine → Kept → ℕ → Find → Advanced
-found now kept left find = record { engine = record { now = now; kept = kept }; left = left; find = find }
-
--- a run of which the actions are asked for, or only how it ends
-unfoldable pub heard : Bool → Ran → Ran
-heard true r = r
-heard false r = stopped (r .stop) (r .count)
-
--- an action is found only where it is asked for, and took a word at least
-unfoldable pub Spent : Bool → ℕ → ℕ → Find → Type 0
-Spent halt allowed left (f.Drew action) = (halt ≡ true) × (left < allowed)
-Spent halt allowed left (f.Over stop) = left ≤ allowed
-
--- the contract of `advance`: what it answers, with the run from there, is the whole run from here
-pub record Advances (list : List ℕ) (memory allowed : ℕ) (halt : Bool) (from : State) (a : Advanced) (after : List ℕ) : Type 0 where
-  pub spent : Spent halt allowed (a .left) (a .find)
-  pub whole :
-      heard halt (run list memory allowed from) ≡
-      heard halt (then (allowed - a .left) (a .find) (run list memory (a .left) (record { engine = a .engine; handles = after })))

@@ -1,6 +1,7 @@
 // A run from one drawing action to the next.
 ghost use mathlib.Core.Path.{_≡_};
-ghost use Rattle.engine.specs.Run.{WithinLimits, clearOf, drawingOf, actionOf, isKept, stopAt, found, Advances, endingOf, runOf};
+ghost use Rattle.engine.specs.Advance.{isKept, found, Advances};
+ghost use Rattle.engine.specs.Run.{WithinLimits, clearOf, drawingOf, actionOf, stopAt, endingOf, runOf};
 use crate::context::Context;
 use crate::handles::SETTINGS;
 use crate::kept::Engine;

@@ -4,7 +4,8 @@ use mathlib.Core.List.{List, [], _∷_, _++_, append-assoc}
 use mathlib.Core.Path.{_≡_, refl, _∙_, ap}
 use Prim.Native.Nat.{ℕ, _+_, _<_}
 use Rattle.action.specs.declared.Action.{Action}
-use Rattle.engine.specs.Run.{Advances, Ran, Spent, heard, run, then}
+use Rattle.engine.specs.Advance.{Advances, Spent, heard, then}
+use Rattle.engine.specs.Run.{Ran, run}
 use Rattle.engine.specs.declared.kept.Engine.{Engine}
 use Rattle.engine.specs.declared.run.Advanced.{Advanced}
 use Rattle.engine.specs.declared.run.Find.the-variants as f

@@ -5,7 +5,8 @@ use mathlib.Core.Path.{_≡_, refl, sym, _∙_, ap, subst}
 use Prim.Native.Nat.{ℕ, _+_, _<_, _≤_}
 use native.Mathlib.Omega.{arith}
 use Rattle.truth.proofs.Bools.{never}
-use Rattle.engine.specs.Run.{Advances, Ran, Spent, heard, run, then}
+use Rattle.engine.specs.Advance.{Advances, Spent, heard, then}
+use Rattle.engine.specs.Run.{Ran, run}
 use Rattle.engine.specs.declared.kept.Engine.{Engine}
 use Rattle.engine.specs.declared.run.Advanced.{Advanced}
 use Rattle.engine.specs.declared.run.Find.{Find}

@@ -8,7 +8,8 @@ use borrow.Author.Needs.{needs}
 use Rattle.engine.specs.Kept.{dropped, pushed, popped, called, returned}
 use Rattle.engine.specs.declared.machine.Event.the-variants as e
 use Rattle.engine.specs.declared.run.Find.the-variants as f
-use Rattle.engine.specs.Run.{State, Ran, Spent, placeOf, stopAt, after, more, then, heard, run}
+use Rattle.engine.specs.Advance.{Spent, more, then, heard}
+use Rattle.engine.specs.Run.{State, Ran, placeOf, stopAt, after, run}
 use Rattle.engine.proofs.Calling.{call-ready, return-ready}
 use Rattle.engine.proofs.Four.{long}
 use Rattle.engine.proofs.Keeping.{some-kept, four-kept, newest-there, newest-none}

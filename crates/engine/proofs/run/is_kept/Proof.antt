@@ -1,5 +1,5 @@
 use mathlib.Core.Path.{refl}
-use Rattle.engine.specs.Run.{isKept}
+use Rattle.engine.specs.Advance.{isKept}
 use Rattle.engine.proofs.run.is_kept.Statement.{statement}
 use Rattle.engine.proofs.run.is_kept.Tie as tie
 
