@@ -1,0 +1,62 @@
+-- A valid machine with one part changed is valid. Assumes nothing.
+use mathlib.Core.Path.{_≡_, refl}
+use mathlib.Core.Bool.{true}
+use mathlib.Core.List.{_∷_}
+use mathlib.Core.Logic.{_⊎_}
+use Prim.Native.Nat.{ℕ, _<_}
+use native.Mathlib.Omega.{arith}
+use lib.IntN.{ℤ}
+use lib.ListN.{length-take, length-drop, length-append}
+use Rattle.units.specs.Units.{meantShift, shiftAt}
+use Rattle.units.proofs.Meaning.{shift-of}
+use Rattle.engine.specs.declared.context.Context.{Context}
+use Rattle.engine.specs.declared.machine.Corner.{Corner}
+use Rattle.engine.specs.declared.machine.Machine.{Machine}
+use Rattle.engine.specs.Changes.{withContext, withPlace, withCorner}
+use Rattle.engine.specs.Context.{starting}
+use Rattle.engine.specs.Machine.{called, returned, beginning, drawnPrimitive}
+use Rattle.invariant.specs.State.{InBits, ValidContext, Aligned, ValidMachine}
+use Rattle.invariant.proofs.Bits.{field-most}
+use Rattle.invariant.proofs.Lists.{each-take, each-moved, each-at}
+
+-- a translation of 17 bits, as it is kept
+pub shift-in : (z : ℤ) → InBits 17 z → InBits 17 (meantShift (shiftAt z))
+shift-in z h = rw (shift-of z (omega (arith, field-most 17 z h)) .meant) h
+
+pub starting-valid : ValidContext starting
+starting-valid = search (arith, shift-in)
+
+module _ {m : Machine} (v : ValidMachine m) where
+  pub with-context : {c : Context} → ValidContext c → ValidMachine (withContext m c)
+  with-context h = search
+
+  pub with-place : (to : ℕ) → Aligned to → ValidMachine (withPlace m to)
+  with-place to h = search
+
+  pub with-corner : (c : Corner) → ValidMachine (withCorner m c)
+  with-corner c = search
+
+  pub with-primitive : (primitive : ℕ) → (primitive ≡ 0) ⊎ (drawnPrimitive primitive ≡ true) → ValidMachine (beginning m primitive)
+  with-primitive primitive h = search
+
+  pub with-call : (to : ℕ) → m .depth < 4 → Aligned to → ValidMachine (called m to)
+  unfolding called
+  with-call to l h = record {
+    context = v .context;
+    place = h;
+    returns = each-take Aligned 4 (m .at ∷ m .calls) (v .place, v .returns);
+    calls = simp length-take (omega arith);
+    depth = omega arith;
+    primitive = v .primitive;
+  }
+
+  pub with-return : ValidMachine (returned m)
+  unfolding returned
+  with-return = record {
+    context = v .context;
+    place = each-at Aligned (m .calls) 0 0 refl (v .returns);
+    returns = each-moved Aligned (m .calls) 0 refl (v .returns);
+    calls = simp (length-append, length-drop) (omega arith);
+    depth = omega arith;
+    primitive = v .primitive;
+  }
