@@ -16,15 +16,6 @@ use Rattle.action.specs.declared.numbers.Format.{Format}
 use Rattle.action.specs.declared.numbers.Format.the-variants as m
 use Rattle.action.specs.Numbers.{testNumber, testOf, tests, stencilActionNumber, stencilActionOf, stencilActions, factorNumber, factorOf, factors, formatNumber, formatOf}
 
--- a number that is none of 0 to n - 1, as the last arm of a match knows it
-abbrev pub NoneBelow : ℕ → ℕ → Type 0
-NoneBelow zero k = Unit
-NoneBelow (suc n) k = NoneBelow n k × (k ≡ n → ⊥)
-
-pub past : (n k : ℕ) → NoneBelow n k → n ≤ k
-past zero k h = omega arith
-past (suc n) k h = let p : n ≤ k = past n k (h .0) in let q : k ≡ n → ⊥ = h .1 in omega arith
-
 -- the entries of a table and the case after the last have the numbers from i on
 abbrev Counted : {A : Type 0} → (A → ℕ) → ℕ → List A → A → Type 0
 Counted number i [] last = number last ≡ i

@@ -1,3 +1,5 @@
+pub mod Corners
 pub mod Ends
+pub mod Flags
 pub mod Numbers
 pub mod Same

@@ -1,5 +1,6 @@
 // How a covered pixel is changed.
 ghost use mathlib.Core.Path.{_≡_};
+ghost use Rattle.action.specs.Flags.{isAny};
 ghost use Rattle.action.specs.Same.{Tells};
 use crate::numbers::Factor;
 use crate::numbers::StencilAction;
@@ -185,5 +186,12 @@ impl Clear {
             & (self.stencil == other.stencil)
             & (self.tag == other.tag)
             & values.is(other_values)
+    }
+
+    // Whether it covers anything.
+    pub fn is_any(self) -> bool
+        ensures { λ r. ⌜ r ≡ isAny self ⌝ }
+    {
+        (self.colour != 0) | ((self.stencil != 0) | (self.tag != 0))
     }
 }

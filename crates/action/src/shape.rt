@@ -1,10 +1,14 @@
 // Which pixels are covered.
 ghost use mathlib.Core.Path.{_≡_};
+ghost use Rattle.action.specs.Corners.{cornersInOrder};
 ghost use Rattle.action.specs.Ends.{shortEnd, shortEnds};
 ghost use Rattle.action.specs.Same.{Tells};
 use crate::numbers::Format;
+use units::LengthInSixteenths;
 use units::Pixels;
 use units::Sixteenths;
+use units::least;
+use units::most;
 
 // Left and top are in, right and bottom are not: a top left pixel and a size, as document 01 has scissors and bitmaps, kept as where they end.
 pub struct Area {
@@ -28,14 +32,14 @@ impl Area {
 pub struct Point {
     pub x: Sixteenths,
     pub y: Sixteenths,
-    pub size: u32,
+    pub size: LengthInSixteenths,
 }
 
 impl Point {
     pub fn is(self, other: Point) -> bool
         ensures { λ r. ⌜ Tells r (self ≡ other) ⌝ }
     {
-        (self.x.0 == other.x.0) & (self.y.0 == other.y.0) & (self.size == other.size)
+        (self.x.0 == other.x.0) & (self.y.0 == other.y.0) & (self.size.0 == other.size.0)
     }
 }
 
@@ -45,10 +49,29 @@ pub struct Rectangle {
     pub top: Sixteenths,
     pub right: Sixteenths,
     pub bottom: Sixteenths,
-    pub width: u32,
+    pub width: LengthInSixteenths,
 }
 
 impl Rectangle {
+    // The one of two corners, which are put in order, x and y apart.
+    pub fn of(
+        ax: Sixteenths,
+        ay: Sixteenths,
+        bx: Sixteenths,
+        by: Sixteenths,
+        width: LengthInSixteenths,
+    ) -> Rectangle
+        ensures { λ r. ⌜ r ≡ cornersInOrder ax ay bx by width ⌝ }
+    {
+        Rectangle {
+            left: Sixteenths(least(ax.0, bx.0)),
+            top: Sixteenths(least(ay.0, by.0)),
+            right: Sixteenths(most(ax.0, bx.0)),
+            bottom: Sixteenths(most(ay.0, by.0)),
+            width,
+        }
+    }
+
     pub fn is(self, other: Rectangle) -> bool
         ensures { λ r. ⌜ Tells r (self ≡ other) ⌝ }
     {
@@ -56,7 +79,7 @@ impl Rectangle {
             & (self.top.0 == other.top.0)
             & (self.right.0 == other.right.0)
             & (self.bottom.0 == other.bottom.0)
-            & (self.width == other.width)
+            & (self.width.0 == other.width.0)
     }
 }
 
@@ -86,7 +109,7 @@ impl End {
 pub struct Segment {
     pub from: End,
     pub to: End,
-    pub width: u32,
+    pub width: LengthInSixteenths,
     pub primitive: u32,
 }
 
@@ -100,7 +123,7 @@ impl Segment {
         let other_to = other.to;
         from.is(other_from)
             & to.is(other_to)
-            & (self.width == other.width)
+            & (self.width.0 == other.width.0)
             & (self.primitive == other.primitive)
     }
 

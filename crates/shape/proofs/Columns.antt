@@ -1,14 +1,15 @@
 -- Which columns a chord has, by the outline that it is cut from. Assumes nothing.
 use mathlib.Core.Path.{_≡_, sym, _∙_}
 use mathlib.Core.Bool.{true, false, _&&_, and-true, and-false}
-use Prim.Native.Nat.{ℕ, _+_, _-_, _*_, _/_, _^_, _≤_, _<_}
+use Prim.Native.Nat.{ℕ, _+_, _-_, _*_, _^_, _≤_, _<_}
 use native.Mathlib.Omega.{arith}
 use lib.Dec.{eqb, ltb}
 use borrow.Author.Tests.{lt-ltb, le-ltb, eqb-true}
 use Rattle.truth.proofs.Bools.{and-implied, both-true, never}
+use Rattle.units.specs.declared.LengthInSixteenths.{LengthInSixteenths}
 use Rattle.units.specs.declared.Pixels.{Pixels}
 use Rattle.units.specs.declared.Sixteenths.{Sixteenths}
-use Rattle.units.specs.Units.{sampled, spaced, pixelAt}
+use Rattle.units.specs.Units.{endNear, firstNear, sampled, spaced, pixelAt}
 use Rattle.action.specs.declared.shape.Area.{Area}
 use Rattle.action.specs.declared.shape.Point.{Point}
 use Rattle.action.specs.declared.shape.Rectangle.{Rectangle}
@@ -63,8 +64,8 @@ unfolding covers areaCovers
 area-has a q e = record { exact = λ p h. rw e (and-true _ ∙ sym (has-flat (a .left) (a .right) p h)) }
 
 -- the pixels that can be reached from a range, along one axis: one law for columns and rows
-reached-between : (p : Pixels) (low high : Sixteenths) (size : ℕ) → outside (sampled p) low high ≤ size → ((low .0 - size + 15) / 16 ≤ p .0) × (p .0 ≤ (high .0 + size) / 16)
-reached-between p low high size h = (omega arith, omega arith)
+reached-between : (p : Pixels) (low high : Sixteenths) (reach : LengthInSixteenths) → outside (sampled p) low high ≤ reach .0 → (firstNear low reach .0 ≤ p .0) × (p .0 < endNear high reach .0)
+reached-between p low high reach h = (omega arith, omega arith)
 
 -- the column's distance is settled by its test against the room
 pub too-far : (c : Chord) (p : Pixels) (d : ℕ) → d ≡ outside (sampled p) (c .near) (c .far) → 2 ^ 32 ≤ d → false ≡ holdsIn c p
@@ -80,23 +81,23 @@ module _ (d : Rectangle) (q : Pixels) where
   down = outside (sampled q) (d .top) (d .bottom)
 
   abbrev leaves : ℕ
-  leaves = d .width * d .width - down * down + 1
+  leaves = d .width .0 * d .width .0 - down * down + 1
 
-  pub rectangle-off : d .width < down → Chords (o.Rectangle d) q noColumn
+  pub rectangle-off : d .width .0 < down → Chords (o.Rectangle d) q noColumn
   unfolding covers rectangleCovers
   rectangle-off h = record { exact = λ p k. down-too-far _ _ _ h ∙ sym (has-none p) }
 
-  pub rectangle-has : (left right : Pixels) (room : ℕ) → d .width < 2 ^ 32 → down ≤ d .width → left .0 ≤ (d .left .0 - d .width + 15) / 16 → (d .right .0 + d .width) / 16 < right .0 → room ≡ leaves → Chords (o.Rectangle d) q (record { left = left; right = right; near = d .left; far = d .right; room = room })
+  pub rectangle-has : (left right : Pixels) (room : ℕ) → d .width .0 < 2 ^ 32 → down ≤ d .width .0 → left .0 ≤ firstNear (d .left) (d .width) .0 → endNear (d .right) (d .width) .0 ≤ right .0 → room ≡ leaves → Chords (o.Rectangle d) q (record { left = left; right = right; near = d .left; far = d .right; room = room })
   unfolding covers rectangleCovers holdsIn nearEnough
   rectangle-has left right room fits h l r m = record {
     exact = λ p k.
         let across : ℕ = outside (sampled p) (d .left) (d .right) in
-        let e : within across down (d .width) ≡ (ltb across (2 ^ 32) && ltb (across * across) room) = rw m (within-left across down (d .width) h fits) in
+        let e : within across down (d .width .0) ≡ (ltb across (2 ^ 32) && ltb (across * across) room) = rw m (within-left across down (d .width .0) h fits) in
         e
         ∙ sym
         (and-implied _ _
         (λ t.
-        let b = reached-between p (d .left) (d .right) (d .width) (within-legs across down (d .width) (e ∙ t) .0) in
+        let b = reached-between p (d .left) (d .right) (d .width) (within-legs across down (d .width .0) (e ∙ t) .0) in
         between-made (left .0) (right .0) (p .0) (omega arith) (omega arith)));
   }
 
@@ -112,7 +113,7 @@ pub point-has : (d : Point) (q : Pixels) (c : Chord) → Chords (o.Rectangle (sq
 point-has d q c h = record { exact = λ p k. square-covers d p q ∙ h .exact p k }
 
 -- the rows
-pub rectangle-rows : (d : Rectangle) (r : Rows) → r .top .0 ≤ (d .top .0 - d .width + 15) / 16 → (d .bottom .0 + d .width) / 16 < r .bottom .0 → Bounds (o.Rectangle d) r
+pub rectangle-rows : (d : Rectangle) (r : Rows) → r .top .0 ≤ firstNear (d .top) (d .width) .0 → endNear (d .bottom) (d .width) .0 ≤ r .bottom .0 → Bounds (o.Rectangle d) r
 unfolding covers rectangleCovers
 rectangle-rows d r t b = record {
   bound = λ p q h k e.

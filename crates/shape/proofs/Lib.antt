@@ -1,3 +1,4 @@
+pub mod Banding
 pub mod Bools
 pub mod Columns
 pub mod Meaning

@@ -11,17 +11,18 @@ use Rattle.truth.proofs.Bools.{both-made, both-true}
 use Rattle.units.specs.declared.Pixels.{Pixels}
 use Rattle.units.specs.declared.Sixteenths.{Sixteenths}
 use Rattle.units.specs.Units.{displacement, meantPixels, meantSixteenths, distance, sampled, spaced, isShort, shortFrom, shortTo}
-use Rattle.units.proofs.Meaning.{sampled-at, apart-by, mean-apart}
+use Rattle.units.proofs.Meaning.{sampled-at, apart-by, in-order, mean-apart}
 use Rattle.action.specs.declared.shape.Area.{Area}
 use Rattle.action.specs.declared.shape.Point.{Point}
 use Rattle.action.specs.declared.shape.Rectangle.{Rectangle}
 use Rattle.action.specs.declared.shape.End.{End}
 use Rattle.action.specs.declared.shape.Segment.{Segment}
+use Rattle.action.specs.Corners.{InOrder}
 use Rattle.action.specs.Ends.{shortEnds}
 use Rattle.action.specs.Same.{Tells}
 use Rattle.action.proofs.Telling.{tells-as}
 use Rattle.shape.specs.Cover.{within, outside, between, toMean, nearMean, pointCovers, rectangleCovers, segmentCovers, areaCovers}
-use Rattle.shape.specs.Meaning.{nearPlace, NearBox, InOrder, InRange, distanceToMean, NearSegment, toMean², Nearest, InArea, Meant}
+use Rattle.shape.specs.Meaning.{nearPlace, NearBox, InRange, distanceToMean, NearSegment, toMean², Nearest, InArea, Meant}
 use Rattle.shape.proofs.Bools.{same-tests}
 use Rattle.shape.proofs.Means.{weights, least-mean}
 use Rattle.shape.proofs.Narrowing.{covered-near, near-covered}
@@ -32,7 +33,7 @@ use Rattle.shape.proofs.Order.{tells-le, tells-lt, kept-from}
 sample-apart : (p : Pixels) (s : Sixteenths) → distance (pos 16 *ℤ meantPixels p) (meantSixteenths s) ≡ spaced (sampled p) s
 sample-apart p s = rw (← sampled-at p .meant) (sym (apart-by (sampled p) s refl .meant))
 
-pub points-meant : (d : Point) (p q : Pixels) → pointCovers d p q ≡ nearPlace p q (meantSixteenths (d .x)) (meantSixteenths (d .y)) (d .size)
+pub points-meant : (d : Point) (p q : Pixels) → pointCovers d p q ≡ nearPlace p q (meantSixteenths (d .x)) (meantSixteenths (d .y)) (d .size .0)
 unfolding pointCovers nearPlace
 points-meant d p q = rw (sample-apart p (d .x), sample-apart q (d .y))
 
@@ -40,9 +41,6 @@ points-meant d p q = rw (sample-apart p (d .x), sample-apart q (d .y))
 le-meant : (a b : Sixteenths) → Tells (leb (a .0) (b .0)) (meantSixteenths a ≤ℤ meantSixteenths b)
 unfolding meantSixteenths
 le-meant a b = tells-le (16 * displacement) (a .0) (b .0)
-
-in-order : (a b : Sixteenths) → a .0 ≤ b .0 → meantSixteenths a ≤ℤ meantSixteenths b
-in-order a b l = le-meant a b .holds (le-leb _ _ l)
 
 order-kept : (a b : Sixteenths) → meantSixteenths a ≤ℤ meantSixteenths b → a .0 ≤ b .0
 order-kept a b l = leb-true _ _ (le-meant a b .told l)
@@ -85,7 +83,7 @@ module _ (d : Rectangle) (p q : Pixels) where
   box-told : NearBox d p q → rectangleCovers d p q ≡ true
   unfolding rectangleCovers nearPlace
   box-told n =
-      within-nearer _ _ _ _ (d .width)
+      within-nearer _ _ _ _ (d .width .0)
       (none-nearer p (d .left) (d .right) (n .s) (n .inside .across))
       (none-nearer q (d .top) (d .bottom) (n .t) (n .inside .down))
       (n .near)

@@ -81,7 +81,7 @@ pub record NearSome (d : Segment) (s : End) : Type 0 where
 
 module _ (d : Segment) (s : End) where
   abbrev pub Weighed : ℕ → ℕ → Type 0
-  Weighed k n = Near (squared s (d .from)) (squared s (d .to)) (squared (d .from) (d .to)) (d .width * d .width) k n
+  Weighed k n = Near (squared s (d .from)) (squared s (d .to)) (squared (d .from) (d .to)) (d .width .0 * d .width .0) k n
 
   abbrev tx : ℕ → ℕ → ℕ
   tx k n = toMean k n (d .from .x) (d .to .x) (s .x)
@@ -99,13 +99,13 @@ module _ (d : Segment) (s : End) where
   pub weighed : (k n : ℕ) → 0 < k + n → nearMean d s k n ≡ true → Weighed k n
   unfolding nearMean within
   weighed k n some e =
-      let l = leb-true (tx k n * tx k n + ty k n * ty k n) ((k + n) * d .width * ((k + n) * d .width)) e in
+      let l = leb-true (tx k n * tx k n + ty k n * ty k n) ((k + n) * d .width .0 * ((k + n) * d .width .0)) e in
       record { some = some; near = omega (arith, stewart k n, l) }
 
   pub unweighed : (k n : ℕ) → Weighed k n → nearMean d s k n ≡ true
   unfolding nearMean within
   unweighed k n h =
-      le-leb (tx k n * tx k n + ty k n * ty k n) ((k + n) * d .width * ((k + n) * d .width)) (omega (arith, stewart k n, h .near))
+      le-leb (tx k n * tx k n + ty k n * ty k n) ((k + n) * d .width .0 * ((k + n) * d .width .0)) (omega (arith, stewart k n, h .near))
 
   -- with equal ends, the sample is as far from the one as from the other
   same-ends : squared (d .from) (d .to) ≡ 0 → squared s (d .from) ≡ squared s (d .to)

@@ -8,7 +8,7 @@ use borrow.Author.Tests.{leb-true, leb-false, le-leb, ltb-true, ltb-false}
 use Rattle.truth.proofs.Bools.{both-made, both-true, never, not-so, same-truth}
 use Rattle.units.specs.declared.Pixels.{Pixels}
 use Rattle.units.specs.declared.Sixteenths.{Sixteenths}
-use Rattle.units.specs.Units.{pixelAt, shortFrom, shortTo, spaced}
+use Rattle.units.specs.Units.{larger, pixelAt, shortFrom, shortTo, smaller, spaced, widest}
 use Rattle.action.specs.declared.shape.Area.{Area}
 use Rattle.action.specs.declared.shape.Segment.{Segment}
 use Rattle.action.specs.Ends.{shortEnds}
@@ -18,7 +18,7 @@ use Rattle.shape.specs.declared.Chord.{Chord}
 use Rattle.shape.specs.declared.Rows.{Rows}
 use Rattle.shape.specs.Cover.{between, squared, sampleAt, toMean, nearMean, segmentCovers, rectangleCovers, areaCovers, covers, reaches}
 use Rattle.shape.specs.Lines.{Between, FirstCovered, LastCovered, Leans, OnScreen, boxOf, byRest, bySquares}
-use Rattle.shape.specs.OneRow.{Bounds, Chords, Narrows, Reached, Shown, boxed, cutTo, flatOver, holdsIn, larger, noColumn, smaller}
+use Rattle.shape.specs.OneRow.{Bounds, Chords, Narrows, Reached, Shown, boxed, cutTo, flatOver, holdsIn, noColumn}
 use Rattle.shape.proofs.Bools.{between-made, between-true}
 use Rattle.shape.proofs.Columns.{has-flat, has-none}
 use Rattle.shape.proofs.Means.{NearSome, some-mean, weighed, unweighed}
@@ -43,7 +43,7 @@ module _ (d : Segment) (p q : Pixels) where
   covered-short e = both-true (shortEnds d) _ e .0
 
   pub box-covers : segmentCovers d p q ≡ true → covers (o.Rectangle (boxOf d)) p q ≡ true
-  unfolding covers rectangleCovers boxOf
+  unfolding covers rectangleCovers
   box-covers e = box-near d (sampleAt p q) (covered-near e)
 
   -- THE TEST, for a segment that may be drawn: A and B from the sample to the ends, L from end to end, W of the width
@@ -58,7 +58,7 @@ module _ (d : Segment) (p q : Pixels) where
     L = squared (d .from) (d .to)
 
     abbrev W : ℕ
-    W = d .width * d .width
+    W = d .width .0 * d .width .0
 
     near-by : (k n : ℕ) → Near A B L W k n → segmentCovers d p q ≡ true
     near-by k n h =
@@ -136,22 +136,22 @@ module _ (d : Segment) (p q : Pixels) where
             let w = ap (λ z. (k + n) * z) g in
             (omega arith, omega arith)
 
-    pub on-line : (c : Chord) → Leans (d .from .x .0 - shortFrom) (d .from .y .0 - shortFrom) (d .to .x .0 - shortFrom) (d .to .y .0 - shortFrom) (16 * q .0 - shortFrom) (d .width * (spaced (d .from .x) (d .to .x) + spaced (d .from .y) (d .to .y))) c → segmentCovers d p q ≡ true → (c .left .0 ≤ p .0) × (p .0 < c .right .0)
+    pub on-line : (c : Chord) → Leans (d .from .x .0 - shortFrom) (d .from .y .0 - shortFrom) (d .to .x .0 - shortFrom) (d .to .y .0 - shortFrom) (16 * q .0 - shortFrom) (d .width .0 * (spaced (d .from .x) (d .to .x) + spaced (d .from .y) (d .to .y))) c → segmentCovers d p q ≡ true → (c .left .0 ≤ p .0) × (p .0 < c .right .0)
     unfolding nearMean
     on-line c leans e =
         let h = covered-near e in
         let near = ends-close d short in
         let sample = sample-close p q onx ony in
         let legs = within-legs _ _ _ (h .near) in
-        let across = axis (h .k) (h .n) (d .width) (d .from .x) (d .to .x) (record { 0 = 16 * p .0 }) (near .0 .0) (near .1 .0) (sample .0) (legs .0) in
-        let down = axis (h .k) (h .n) (d .width) (d .from .y) (d .to .y) (record { 0 = 16 * q .0 }) (near .0 .1) (near .1 .1) (sample .1) (legs .1) in
+        let across = axis (h .k) (h .n) (d .width .0) (d .from .x) (d .to .x) (record { 0 = 16 * p .0 }) (near .0 .0) (near .1 .0) (sample .0) (legs .0) in
+        let down = axis (h .k) (h .n) (d .width .0) (d .from .y) (d .to .y) (record { 0 = 16 * q .0 }) (near .0 .1) (near .1 .1) (sample .1) (legs .1) in
         let turned = commute _ _ _ _ _ _ across in
         let turned-down = commute _ _ _ _ _ _ down in
         let l = same (d .from .x .0) (d .to .x .0) (near .0 .0 .0) (near .1 .0 .0) in
         let m = same (d .from .y .0) (d .to .y .0) (near .0 .1 .0) (near .1 .1 .0) in
         leans .all p onx
-        (slope (h .k) (h .n) _ _ _ _ _ _ (d .width) _ (omega (arith, l, m)) (h .some) (across .0) (across .1) (down .0) (down .1))
-        (slope (h .n) (h .k) _ _ _ _ _ _ (d .width) _ (omega (arith, l, m)) (omega (arith, h .some)) (turned .0) (turned .1) (turned-down .0) (turned-down .1))
+        (slope (h .k) (h .n) _ _ _ _ _ _ (d .width .0) _ (omega (arith, l, m)) (h .some) (across .0) (across .1) (down .0) (down .1))
+        (slope (h .n) (h .k) _ _ _ _ _ _ (d .width .0) _ (omega (arith, l, m)) (omega (arith, h .some)) (turned .0) (turned .1) (turned-down .0) (turned-down .1))
       where
         same : (a b : ℕ) → shortFrom ≤ a → shortFrom ≤ b → ((a - shortFrom) - (b - shortFrom)) + ((b - shortFrom) - (a - shortFrom)) ≡ (a - b) + (b - a)
         same a b h k = kept (a - shortFrom) (b - shortFrom) (omega arith) (omega arith)
@@ -188,18 +188,18 @@ module _ (d : Segment) (q : Pixels) (c : Chord) (shown : Shown c) (line : Chord)
 
   module _ (first : FirstCovered d q leftmost rightmost from) (last : LastCovered d q from rightmost end) where
     -- the columns of the chord that are covered are those from the first to the last
-    in-run : (x : ℕ) → c .left .0 ≤ x → x < c .right .0 → segmentCovers d (record { 0 = x }) q ≡ true → between from end x ≡ true
-    in-run x l r e =
+    in-columns : (x : ℕ) → c .left .0 ≤ x → x < c .right .0 → segmentCovers d (record { 0 = x }) q ≡ true → between from end x ≡ true
+    in-columns x l r e =
         let s = all .all (record { 0 = x }) (omega arith, omega arith) e in
         between-made from end x
         (by-order x from (λ m. absurd (never (sym (first .none x (omega arith) m) ∙ e))) (λ m. m))
         (by-order x end (λ m. m) (λ m. absurd (never (sym (last .none x m (omega arith)) ∙ e))))
 
-    run-covered : (x : ℕ) → from ≤ x → x < end → segmentCovers d (record { 0 = x }) q ≡ true
-    run-covered x l m =
+    columns-covered : (x : ℕ) → from ≤ x → x < end → segmentCovers d (record { 0 = x }) q ≡ true
+    columns-covered x l m =
         no-gap d q from x (end - 1) l (omega arith) (first .one (omega (arith, last .to))) (last .one (omega arith))
 
-    module _ (scissor : Area) (width : ℕ) (whole : Chord) (fits : width ≤ 800) (row : between (scissor .top .0) (scissor .bottom .0) (q .0) ≡ true) (has : Chords (o.Rectangle (boxOf d)) q whole) (cut : c ≡ cutTo scissor width whole) where
+    module _ (scissor : Area) (width : ℕ) (whole : Chord) (fits : width ≤ widest) (row : between (scissor .top .0) (scissor .bottom .0) (q .0) ≡ true) (has : Chords (o.Rectangle (boxOf d)) q whole) (cut : c ≡ cutTo scissor width whole) where
       left : c .left .0 ≡ cutTo scissor width whole .left .0
       left = ap (λ (z : Chord). z .left .0) cut
 
@@ -216,12 +216,12 @@ module _ (d : Segment) (q : Pixels) (c : Chord) (shown : Shown c) (line : Chord)
       to-right : (x : ℕ) → x < pixelAt width .0 → x < scissor .right .0 → x < whole .right .0 → x < c .right .0
       to-right x f s w = omega (arith, right)
 
-      run-in : (c .left .0 ≤ from) × (end ≤ c .right .0)
-      run-in = (omega (arith, first .on), omega (arith, last .to))
+      columns-in : (c .left .0 ≤ from) × (end ≤ c .right .0)
+      columns-in = (omega (arith, first .on), omega (arith, last .to))
 
-      run-reached : Reached (o.Segment d) scissor width q (flatOver (record { 0 = from }) (record { 0 = end }))
+      columns-reached : Reached (o.Segment d) scissor width q (flatOver (record { 0 = from }) (record { 0 = end }))
       unfolding reaches covers areaCovers
-      run-reached = record {
+      columns-reached = record {
         exact = λ x h.
             same-truth _ _
             (λ e.
@@ -230,22 +230,22 @@ module _ (d : Segment) (q : Pixels) (c : Chord) (shown : Shown c) (line : Chord)
             let v = both-true _ (holdsIn whole (pixelAt x)) (sym (has .exact (pixelAt x) (omega arith)) ∙ box-covers d (pixelAt x) q (t .1)) in
             let w = between-true (whole .left .0) (whole .right .0) (pixelAt x .0) (v .0) in
             has-flat (record { 0 = from }) (record { 0 = end }) (pixelAt x) (omega arith)
-            ∙ in-run (pixelAt x .0) (from-left _ (omega arith) (u .0) (w .0)) (to-right _ (omega arith) (u .1) (w .1)) (t .1))
+            ∙ in-columns (pixelAt x .0) (from-left _ (omega arith) (u .0) (w .0)) (to-right _ (omega arith) (u .1) (w .1)) (t .1))
             (λ e.
             let u = between-true from end (pixelAt x .0) (sym (has-flat (record { 0 = from }) (record { 0 = end }) (pixelAt x) (omega arith)) ∙ e) in
             both-made
             (both-made
-            (between-made (scissor .left .0) (scissor .right .0) (pixelAt x .0) (omega (arith, inside, run-in, u)) (omega (arith, inside, run-in, u)))
+            (between-made (scissor .left .0) (scissor .right .0) (pixelAt x .0) (omega (arith, inside, columns-in, u)) (omega (arith, inside, columns-in, u)))
             row)
-            (run-covered (pixelAt x .0) (u .0) (u .1)));
-        from = omega (arith, inside, run-in);
-        to = omega (arith, inside, run-in);
+            (columns-covered (pixelAt x .0) (u .0) (u .1)));
+        from = omega (arith, inside, columns-in);
+        to = omega (arith, inside, columns-in);
       }
 
-    pub run-narrows : Narrows (o.Segment d) q c (flatOver (record { 0 = from }) (record { 0 = end }))
-    run-narrows = record { reached = run-reached }
+    pub columns-narrow : Narrows (o.Segment d) q c (flatOver (record { 0 = from }) (record { 0 = end }))
+    columns-narrow = record { reached = columns-reached }
 
-pub cut-shown : (scissor : Area) (width : ℕ) (whole c : Chord) → width ≤ 800 → c ≡ cutTo scissor width whole → Shown c
+pub cut-shown : (scissor : Area) (width : ℕ) (whole c : Chord) → width ≤ widest → c ≡ cutTo scissor width whole → Shown c
 cut-shown scissor width whole c fits cut =
     let l = ap (λ (z : Chord). z .left .0) cut in
     let r = ap (λ (z : Chord). z .right .0) cut in

@@ -4,39 +4,14 @@ use mathlib.Core.Path.{_≡_, refl, ap}
 use mathlib.Core.Bool.{Bool, true, false}
 use Prim.Native.Nat.{ℕ, suc, _+_, _-_, _≤_, _<_}
 use native.Mathlib.Omega.{arith}
-use lib.Dec.{ltb, leb, leb→le, le→leb, lt→ltb}
+use lib.Dec.{ltb, leb, leb→le}
 use lib.IntN.{ℤ, pos, negsuc, subℕ}
 use lib.Signed.{_≤ℤ_, _<ℤ_, clashℤ}
 use borrow.Author.Tests.{lt-ltb, le-ltb, ltb-true, ltb-false, leb-true, le-leb}
+use Rattle.units.proofs.AnyDisplacement.{order-meant, strict-meant}
 use Rattle.action.specs.Same.{Tells}
 
--- a - d below d, and from d on
-by-side : (a d : ℕ) (P : ℤ → Type 0) → (a < d → P (negsuc (d - suc a))) → (d ≤ a → P (pos (a - d))) → P (subℕ a d)
-by-side a d P below from = go (ltb a d) refl
-  where
-    go : (t : Bool) → ltb a d ≡ t → P (subℕ a d)
-    go true e = rw e (below (ltb-true a d e))
-    go false e = rw e (from (ltb-false a d e))
-
-order : (d a b : ℕ) → a ≤ b → subℕ a d ≤ℤ subℕ b d
-order d a b l =
-    by-side a d (λ (z : ℤ). z ≤ℤ subℕ b d)
-    (λ h.
-    by-side b d (λ (z : ℤ). negsuc (d - suc a) ≤ℤ z)
-    (λ k. record { le = le→leb (d - suc b) (d - suc a) (omega arith) })
-    (λ k. record { le = tt }))
-    (λ h. rw (le-ltb b d (omega arith)) (record { le = le→leb (a - d) (b - d) (omega arith) }))
-
-strict : (d a b : ℕ) → a < b → subℕ a d <ℤ subℕ b d
-strict d a b l =
-    by-side a d (λ (z : ℤ). z <ℤ subℕ b d)
-    (λ h.
-    by-side b d (λ (z : ℤ). negsuc (d - suc a) <ℤ z)
-    (λ k. record { lt = lt→ltb (d - suc b) (d - suc a) (omega arith) })
-    (λ k. record { lt = tt }))
-    (λ h. rw (le-ltb b d (omega arith)) (record { lt = lt→ltb (a - d) (b - d) (omega arith) }))
-
--- the other way round: of two numbers, one is below the other or the other is not above it
+-- of two numbers, one is below the other or the other is not above it
 pub by-order : {P : Type 0} (a b : ℕ) → (a < b → P) → (b ≤ a → P) → P
 by-order {P} a b below from = go (ltb a b) refl
   where
@@ -46,14 +21,14 @@ by-order {P} a b below from = go (ltb a b) refl
 
 pub tells-le : (d a b : ℕ) → Tells (leb a b) (subℕ a d ≤ℤ subℕ b d)
 tells-le d a b = record {
-  holds = λ e. order d a b (leb-true a b e);
-  told = λ h. le-leb a b (by-order b a (λ l. clashℤ (strict d b a l) h) (λ l. l));
+  holds = λ e. order-meant d a b (leb-true a b e);
+  told = λ h. le-leb a b (by-order b a (λ l. clashℤ (strict-meant d b a l) h) (λ l. l));
 }
 
 pub tells-lt : (d a b : ℕ) → Tells (ltb a b) (subℕ a d <ℤ subℕ b d)
 tells-lt d a b = record {
-  holds = λ e. strict d a b (ltb-true a b e);
-  told = λ h. lt-ltb a b (by-order a b (λ l. l) (λ l. clashℤ h (order d b a l)));
+  holds = λ e. strict-meant d a b (ltb-true a b e);
+  told = λ h. lt-ltb a b (by-order a b (λ l. l) (λ l. clashℤ h (order-meant d b a l)));
 }
 
 -- an integer from a kept one on is kept too

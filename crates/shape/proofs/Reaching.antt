@@ -9,13 +9,13 @@ use lib.Dec.{ltb}
 use borrow.Author.Tests.{ltb-true, ltb-false}
 use Rattle.truth.proofs.Bools.{both-made, both-true, never, not-so, same-truth}
 use Rattle.units.specs.declared.Pixels.{Pixels}
-use Rattle.units.specs.Units.{displacement, pixelAt}
+use Rattle.units.specs.Units.{displacement, larger, pixelAt, smaller}
 use Rattle.action.specs.declared.shape.Area.{Area}
 use Rattle.shape.specs.declared.Outline.{Outline}
 use Rattle.shape.specs.declared.Chord.{Chord}
 use Rattle.shape.specs.declared.Rows.{Rows}
 use Rattle.shape.specs.Cover.{between, areaCovers, covers, reaches, reachesRow}
-use Rattle.shape.specs.OneRow.{Sampled, holdsIn, Chords, Reached, Bounds, noColumn, larger, smaller, cutTo}
+use Rattle.shape.specs.OneRow.{Sampled, holdsIn, Chords, Reached, Bounds, noColumn, cutTo}
 use Rattle.shape.proofs.Bools.{between-true, between-made, between-off}
 use Rattle.shape.proofs.Columns.{has-none}
 

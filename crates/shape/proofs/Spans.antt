@@ -1,18 +1,18 @@
 -- What a segment covers lies in the box of its ends, and has no gap in a row. Assumes nothing.
-use mathlib.Core.Path.{_≡_, refl, _∙_, ap, subst}
-use mathlib.Core.Bool.{Bool, true, false, cond}
+use mathlib.Core.Path.{_≡_, _∙_, ap, subst}
+use mathlib.Core.Bool.{true}
 use Prim.Native.Nat.{ℕ, _+_, _-_, _*_, _/_, _≤_, _<_}
 use native.Mathlib.Nat.{mul-le-mul, mul-le-mul-left, mul-pos, le-of-mul-le-mul-left, le-div-iff-mul-le, div-lt-iff-lt-mul}
 use native.Mathlib.Omega.{arith}
-use lib.Dec.{ltb}
-use borrow.Author.Tests.{leb-true, le-leb, ltb-true, ltb-false}
+use borrow.Author.Tests.{leb-true, le-leb}
 use Rattle.units.specs.declared.Pixels.{Pixels}
 use Rattle.units.specs.declared.Sixteenths.{Sixteenths}
-use Rattle.units.specs.Units.{leastOf, mostOf, shortFrom}
+use Rattle.units.specs.Units.{endNear, firstNear, larger, shortFrom, smaller}
 use Rattle.action.specs.declared.shape.End.{End}
 use Rattle.action.specs.declared.shape.Segment.{Segment}
+use Rattle.action.specs.Corners.{cornersInOrder}
 use Rattle.shape.specs.Cover.{within, outside, toMean, nearMean}
-use Rattle.shape.specs.Lines.{Comes, Crosses, Falls}
+use Rattle.shape.specs.Lines.{Comes, Crosses, Falls, boxOf}
 use Rattle.shape.specs.OneRow.{flatOver}
 use Rattle.shape.proofs.Order.{by-order}
 use Rattle.shape.proofs.Squares.{root-le, square-le}
@@ -20,18 +20,6 @@ use Rattle.shape.proofs.Weights.{two-squares}
 use Rattle.shape.proofs.Means.{apart-cases, NearSome}
 
 -- THE BOX. Along one axis, no mean of two positions lies outside of them.
-ordered : (a b : Sixteenths) (P : Sixteenths → Sixteenths → Type 0) → (a .0 ≤ b .0 → P a b) → (b .0 ≤ a .0 → P b a) → P (leastOf a b) (mostOf a b)
-unfolding leastOf mostOf
-ordered a b P up down = go (ltb (b .0) (a .0)) refl (ltb (a .0) (b .0)) refl
-  where
-    go : (s : Bool) → ltb (b .0) (a .0) ≡ s → (t : Bool) → ltb (a .0) (b .0) ≡ t → P (cond (ltb (b .0) (a .0)) b a) (cond (ltb (a .0) (b .0)) b a)
-    go true e true f = absurd (omega (arith, ltb-true (b .0) (a .0) e, ltb-true (a .0) (b .0) f))
-    go true e false f = rw (e, f) (down (ltb-false (a .0) (b .0) f))
-    go false e true f = rw (e, f) (up (ltb-false (b .0) (a .0) e))
-    go false e false f =
-        let same : b .0 ≡ a .0 = omega (arith, ltb-false (b .0) (a .0) e, ltb-false (a .0) (b .0) f) in
-        rw (e, f) (subst (λ (z : Sixteenths). P a z) (ap (λ (n : ℕ). record { 0 = n }) same) (up (ltb-false (b .0) (a .0) e)))
-
 mean-inside : (k n s a b l h : ℕ) → (l ≤ a) × (a ≤ h) → (l ≤ b) × (b ≤ h) → (k + n) * ((l - s) + (s - h)) ≤ ((k + n) * s - (k * a + n * b)) + ((k * a + n * b) - (k + n) * s)
 mean-inside k n s a b l h p q =
     by-order s l
@@ -97,14 +85,14 @@ module _ (d : Segment) (s t s′ y : Sixteenths) (α β : ℕ) (mean : α * s .0
       let across = mix-axis α β (h .k) (h .n) (h′ .k) (h′ .n) s t s′ (d .from .x) (d .to .x) mean in
       let down = mix-axis α β (h .k) (h .n) (h′ .k) (h′ .n) y y y (d .from .y) (d .to .y) (omega arith) in
       let both =
-      mix-within (α * m′) (β * m) _ _ _ _ (m * d .width) (m′ * d .width)
+      mix-within (α * m′) (β * m) _ _ _ _ (m * d .width .0) (m′ * d .width .0)
       (leb-true _ _ (h .near))
       (leb-true _ _ (h′ .near)) in
       record {
         k = α * m′ * h .k + β * m * h′ .k;
         n = α * m′ * h .n + β * m * h′ .n;
         some = rw whole (mul-pos some (mul-pos (h .some) (h′ .some)));
-        near = le-leb _ _ (at-most across down both (ap (λ z. z * d .width) whole ∙ omega arith));
+        near = le-leb _ _ (at-most across down both (ap (λ z. z * d .width .0) whole ∙ omega arith));
       }
     where
       at-most : {p q p′ q′ r r′ : ℕ} → p ≤ p′ → q ≤ q′ → p′ * p′ + q′ * q′ ≤ r′ * r′ → r ≡ r′ → p * p + q * q ≤ r * r
@@ -123,19 +111,16 @@ convex d s t s′ y l m h h′ =
     mean a b p q r e f = rw (f, e) (omega arith)
 
 -- THE BOX around the ends holds all that the segment covers.
-pub box-near : (d : Segment) (s : End) → NearSome d s → within (outside (s .x) (leastOf (d .from .x) (d .to .x)) (mostOf (d .from .x) (d .to .x))) (outside (s .y) (leastOf (d .from .y) (d .to .y)) (mostOf (d .from .y) (d .to .y))) (d .width) ≡ true
-unfolding nearMean within
+pub box-near : (d : Segment) (s : End) → NearSome d s → within (outside (s .x) (boxOf d .left) (boxOf d .right)) (outside (s .y) (boxOf d .top) (boxOf d .bottom)) (boxOf d .width .0) ≡ true
+unfolding nearMean within cornersInOrder
 box-near d s h =
     le-leb _ _
-    (cut _ _ _ _ (h .k + h .n) (h .some) (axis (d .from .x) (d .to .x) (s .x)) (axis (d .from .y) (d .to .y) (s .y)) (leb-true _ _ (h .near)))
+    (cut _ _ _ _ (h .k + h .n) (h .some) (axis (d .from .x .0) (d .to .x .0) (s .x .0)) (axis (d .from .y .0) (d .to .y .0) (s .y .0)) (leb-true _ _ (h .near)))
   where
-    axis : (a b c : Sixteenths) → (h .k + h .n) * outside c (leastOf a b) (mostOf a b) ≤ toMean (h .k) (h .n) a b c
-    axis a b c =
-        ordered a b (λ low high. (h .k + h .n) * outside c low high ≤ toMean (h .k) (h .n) a b c)
-        (λ l. mean-inside (h .k) (h .n) (c .0) (a .0) (b .0) (a .0) (b .0) (omega arith, l) (l, omega arith))
-        (λ l. mean-inside (h .k) (h .n) (c .0) (a .0) (b .0) (b .0) (a .0) (l, omega arith) (omega arith, l))
+    axis : (a b c : ℕ) → (h .k + h .n) * ((smaller a b - c) + (c - larger a b)) ≤ ((h .k + h .n) * c - (h .k * a + h .n * b)) + ((h .k * a + h .n * b) - (h .k + h .n) * c)
+    axis a b c = mean-inside (h .k) (h .n) c a b (smaller a b) (larger a b) (omega arith, omega arith) (omega arith, omega arith)
 
-    cut : (p q t u m : ℕ) → 0 < m → m * p ≤ t → m * q ≤ u → t * t + u * u ≤ m * d .width * (m * d .width) → p * p + q * q ≤ d .width * d .width
+    cut : (p q t u m : ℕ) → 0 < m → m * p ≤ t → m * q ≤ u → t * t + u * u ≤ m * d .width .0 * (m * d .width .0) → p * p + q * q ≤ d .width .0 * d .width .0
     cut p q t u m some a b l =
         le-of-mul-le-mul-left {k = m * m} (omega (arith, square-le a, square-le b)) (mul-pos some some)
 
@@ -174,7 +159,7 @@ slope k n x y ax ay bx by w r both some a b c d l =
         (cut _ _ (f + e) i (t .0), cut _ _ (f + e) i (t .1)))
 
 -- The samples that come near lie between two quotients.
-pub crosses : (more under slack rise : ℕ) (left right : Pixels) → 0 < rise → left .0 ≡ ((more - (under + slack)) / rise + shortFrom - 0 + 15) / 16 → right .0 ≡ ((more + slack - under) / rise + shortFrom + 0) / 16 + 1 → Crosses more under slack rise (flatOver left right)
+pub crosses : (more under slack rise : ℕ) (left right : Pixels) → 0 < rise → left .0 ≡ firstNear (record { 0 = (more - (under + slack)) / rise + shortFrom }) (record { 0 = 0 }) .0 → right .0 ≡ endNear (record { 0 = (more + slack - under) / rise + shortFrom }) (record { 0 = 0 }) .0 → Crosses more under slack rise (flatOver left right)
 crosses more under slack rise left right some l r = record {
   all = λ p on h.
       let low = least (more - (under + slack)) (16 * p .0 - shortFrom) (omega (arith, h .1)) in

@@ -5,23 +5,17 @@ use mathlib.Core.Bool.{Bool, true, false, cond}
 use Prim.Native.Nat.{ℕ, _+_, _-_, _*_, _/_, _≤_, _<_}
 use lib.Dec.{leb, ltb}
 use Rattle.units.specs.declared.Pixels.{Pixels}
-use Rattle.units.specs.Units.{pixelAt, shortFrom, shortTo, leastOf, mostOf}
+use Rattle.units.specs.Units.{pixelAt, shortFrom, shortTo, widest}
 use Rattle.action.specs.declared.shape.End.{End}
 use Rattle.action.specs.declared.shape.Rectangle.{Rectangle}
 use Rattle.action.specs.declared.shape.Segment.{Segment}
+use Rattle.action.specs.Corners.{cornersInOrder}
 use Rattle.shape.specs.declared.Chord.{Chord}
 use Rattle.shape.specs.Cover.{segmentCovers}
 
--- A segment covers nothing that this rectangle does not: its ends are the corners, put in order.
-unfoldable pub boxOf : Segment → Rectangle
-boxOf d =
-    record {
-      left = leastOf (d .from .x) (d .to .x);
-      top = leastOf (d .from .y) (d .to .y);
-      right = mostOf (d .from .x) (d .to .x);
-      bottom = mostOf (d .from .y) (d .to .y);
-      width = d .width;
-    }
+-- A segment covers nothing that this rectangle does not: its ends are the corners.
+abbrev pub boxOf : Segment → Rectangle
+boxOf d = cornersInOrder (d .from .x) (d .from .y) (d .to .x) (d .to .y) (d .width)
 
 -- where no square is too large for 64 bits: the ends of every segment that is drawn, and the samples of every frame
 abbrev pub Close : End → Type 0
@@ -29,7 +23,7 @@ Close e = ((shortFrom ≤ e .x .0) × (e .x .0 < shortTo)) × ((shortFrom ≤ e 
 
 -- a column or a row of a frame
 abbrev pub OnScreen : ℕ → Type 0
-OnScreen x = (pixelAt 0 .0 ≤ x) × (x < pixelAt 800 .0)
+OnScreen x = (pixelAt 0 .0 ≤ x) × (x < pixelAt widest .0)
 
 -- The test of a pixel, by squares: a and b of the sample's distances to the ends, `length` of theirs, `enough` of the width. A segment without an end that
 -- is near enough must be as long as what a and b are too large by, x and y, and the rest of it so long that 4 * x * y is at most its square.

@@ -12,6 +12,7 @@ use Rattle.action.specs.declared.shape.End.{End}
 use Rattle.action.specs.declared.shape.Point.{Point}
 use Rattle.action.specs.declared.shape.Rectangle.{Rectangle}
 use Rattle.action.specs.declared.shape.Segment.{Segment}
+use Rattle.action.specs.Corners.{InOrder}
 use Rattle.action.specs.Ends.{shortEnds}
 use Rattle.action.specs.Same.{Tells}
 use Rattle.shape.specs.Cover.{within, toMean, ofFirst, ofSecond, pointCovers, rectangleCovers, segmentCovers, areaCovers}
@@ -31,12 +32,7 @@ pub record NearBox (d : Rectangle) (p q : Pixels) : Type 0 where
   pub s : ℤ
   pub t : ℤ
   pub inside : InBox d s t
-  pub near : nearPlace p q s t (d .width) ≡ true
-
--- "corners are put in order, x and y apart"
-pub record InOrder (d : Rectangle) : Type 0 where
-  pub across : meantSixteenths (d .left) ≤ℤ meantSixteenths (d .right)
-  pub down : meantSixteenths (d .top) ≤ℤ meantSixteenths (d .bottom)
+  pub near : nearPlace p q s t (d .width .0) ≡ true
 
 -- Wish 1: "-32768..32767 sixteenths"; `negsuc n` is -(n + 1)
 pub record InRange (s : Sixteenths) : Type 0 where
@@ -53,7 +49,7 @@ pub record NearSegment (d : Segment) (p q : Pixels) : Type 0 where
   pub k : ℕ
   pub n : ℕ
   pub some : 0 < k + n
-  pub near : within (distanceToMean k n (d .from .x) (d .to .x) p) (distanceToMean k n (d .from .y) (d .to .y) q) ((k + n) * d .width) ≡ true
+  pub near : within (distanceToMean k n (d .from .x) (d .to .x) p) (distanceToMean k n (d .from .y) (d .to .y) q) ((k + n) * d .width .0) ≡ true
 
 -- No place of the segment is nearer than the one whose weights the definition takes: the squared distance to that is at most the squared distance to the mean
 -- by k and n. Both are multiplied by the squares of both sums of weights.
@@ -71,7 +67,7 @@ pub record InArea (a : Area) (p q : Pixels) : Type 0 where
   pub down : (meantPixels (a .top) ≤ℤ meantPixels q) × (meantPixels q <ℤ meantPixels (a .bottom))
 
 pub record Meant : Type 0 where
-  pub points : (d : Point) (p q : Pixels) → pointCovers d p q ≡ nearPlace p q (meantSixteenths (d .x)) (meantSixteenths (d .y)) (d .size)
+  pub points : (d : Point) (p q : Pixels) → pointCovers d p q ≡ nearPlace p q (meantSixteenths (d .x)) (meantSixteenths (d .y)) (d .size .0)
   pub rectangles : (d : Rectangle) → InOrder d → (p q : Pixels) → Tells (rectangleCovers d p q) (NearBox d p q)
   pub shorts : (s : Sixteenths) → Tells (isShort s) (InRange s)
   pub segments : (d : Segment) → shortEnds d ≡ true → (p q : Pixels) → Tells (segmentCovers d p q) (NearSegment d p q)

@@ -2,10 +2,10 @@
 -- say that the few numbers handed back for a row settle what Cover defines pixel by pixel.
 use mathlib.Core.Path.{_≡_}
 use mathlib.Core.Bool.{Bool, true, _&&_}
-use Prim.Native.Nat.{ℕ, _+_, _-_, _*_, _^_, _≤_, _<_}
+use Prim.Native.Nat.{ℕ, _-_, _*_, _^_, _≤_, _<_}
 use lib.Dec.{ltb}
 use Rattle.units.specs.declared.Pixels.{Pixels}
-use Rattle.units.specs.Units.{pixelAt, sampled}
+use Rattle.units.specs.Units.{larger, pixelAt, sampled, smaller, tallest, widest}
 use Rattle.action.specs.declared.shape.Area.{Area}
 use Rattle.action.specs.declared.shape.Point.{Point}
 use Rattle.action.specs.declared.shape.Rectangle.{Rectangle}
@@ -25,7 +25,7 @@ Sampled p = p .0 < unsampled .0
 
 -- the row is one of a frame's, and the frame is no wider than a frame may be
 abbrev pub InFrame : ℕ → Pixels → Type 0
-InFrame width q = (width ≤ 800) × ((pixelAt 0 .0 ≤ q .0) × (q .0 < pixelAt 600 .0))
+InFrame width q = (width ≤ widest) × ((pixelAt 0 .0 ≤ q .0) × (q .0 < pixelAt tallest .0))
 
 -- The column's sample is near enough to the chord. A size has 32 bits, so that a distance of more is too far whatever the room.
 unfoldable pub nearEnough : ℕ → ℕ → Bool
@@ -71,7 +71,7 @@ boxed (o.Segment d) = o.Rectangle (boxOf d)
 
 -- the chord's columns are columns of a frame
 abbrev pub Shown : Chord → Type 0
-Shown c = (pixelAt 0 .0 ≤ c .left .0) × (c .right .0 ≤ pixelAt 800 .0)
+Shown c = (pixelAt 0 .0 ≤ c .left .0) × (c .right .0 ≤ pixelAt widest .0)
 
 -- the chord that has each column from the one to the other: no sample of 64 bits lies outside of its range
 abbrev pub flatOver : Pixels → Pixels → Chord
@@ -88,13 +88,6 @@ flatOver left right =
 abbrev pub noColumn : Chord
 noColumn = flatOver (pixelAt 0) (pixelAt 0)
 
--- the larger and the smaller of two numbers
-abbrev pub larger : ℕ → ℕ → ℕ
-larger a b = a + (b - a)
-
-abbrev pub smaller : ℕ → ℕ → ℕ
-smaller a b = a - (a - b)
-
 -- the columns of a chord that lie in the scissor's columns and in a frame of this width
 abbrev pub cutTo : Area → ℕ → Chord → Chord
 cutTo scissor width c =
@@ -108,4 +101,4 @@ cutTo scissor width c =
 
 -- what counts of a row: of the columns that are cut from those of the outline's box, the ones that are covered
 pub record Narrows (outline : Outline) (q : Pixels) (c r : Chord) : Type 0 where
-  pub reached : (scissor : Area) (width : ℕ) (whole : Chord) → width ≤ 800 → between (scissor .top .0) (scissor .bottom .0) (q .0) ≡ true → Chords (boxed outline) q whole → c ≡ cutTo scissor width whole → Reached outline scissor width q r
+  pub reached : (scissor : Area) (width : ℕ) (whole : Chord) → width ≤ widest → between (scissor .top .0) (scissor .bottom .0) (q .0) ≡ true → Chords (boxed outline) q whole → c ≡ cutTo scissor width whole → Reached outline scissor width q r

@@ -1,11 +1,11 @@
 // What an action covers, colours apart: row by row, so that a painter asks about few rows, and about few columns of each.
 ghost use mathlib.Core.Path.{_≡_};
-ghost use Prim.Native.Nat.{_+_, _-_, _/_};
 ghost use Rattle.shape.specs.Cover.{outside, between, reachesRow};
 ghost use Rattle.shape.specs.Lines.{OnScreen};
-ghost use Rattle.shape.specs.OneRow.{Sampled, InFrame, holdsIn, Flat, Chords, Reached, Bounds, Shown, Narrows, squareOf, boxed, flatOver, noColumn, larger, smaller, cutTo};
+ghost use Rattle.shape.specs.OneRow.{Sampled, InFrame, holdsIn, Flat, Chords, Reached, Bounds, Shown, Narrows, squareOf, boxed, flatOver, noColumn, cutTo};
 
 mod line;
+pub mod reach;
 
 use action::Area;
 use action::Point;
@@ -13,6 +13,9 @@ use action::Rectangle;
 use action::Segment;
 use units::Pixels;
 use units::Sixteenths;
+use units::least;
+use units::less;
+use units::most;
 
 // No pixel from here on has a sample of 64 bits.
 const PIXELS: u64 = 0x1000_0000_0000_0000;
@@ -47,45 +50,11 @@ pub struct Rows {
     pub bottom: Pixels,
 }
 
-// The difference, 0 where there is none.
-fn less(a: u64, b: u64) -> u64
-    ensures { λ r. ⌜ r ≡ a - b ⌝ }
-{
-    if b < a { a - b } else { 0 }
-}
-
-fn most(a: u64, b: u64) -> u64
-    ensures { λ r. ⌜ r ≡ larger a b ⌝ }
-{
-    if a < b { b } else { a }
-}
-
-fn least(a: u64, b: u64) -> u64
-    ensures { λ r. ⌜ r ≡ smaller a b ⌝ }
-{
-    if b < a { b } else { a }
-}
-
 // How far a position lies from a closed range.
 fn gap(s: Sixteenths, low: Sixteenths, high: Sixteenths) -> u64
     ensures { λ r. ⌜ r ≡ outside s low high ⌝ }
 {
     less(low.0, s.0) + less(s.0, high.0)
-}
-
-// The first pixel whose sample is at most `reach` before the position: rounded up, in two parts whose sum cannot wrap.
-fn first(low: Sixteenths, reach: u32) -> Pixels
-    ensures { λ r. ⌜ r .0 ≡ (low .0 - reach + 15) / 16 ⌝ }
-{
-    let n = less(low.0, reach as u64);
-    Pixels(n / 16 + (n % 16 + 15) / 16)
-}
-
-// The pixel after the last one whose sample is at most `reach` past the position.
-fn end(high: Sixteenths, reach: u32) -> Pixels
-    ensures { λ r. ⌜ r .0 ≡ (high .0 + reach) / 16 + 1 ⌝ }
-{
-    Pixels(high.0 / 16 + (high.0 % 16 + reach as u64) / 16 + 1)
 }
 
 // A point covers what this rectangle does, so that only rectangles and areas are worked out.
@@ -94,12 +63,13 @@ fn square(point: Point) -> Rectangle
 {
     let x = point.x;
     let y = point.y;
+    let size = point.size;
     Rectangle {
         left: x,
         top: y,
         right: x,
         bottom: y,
-        width: point.size,
+        width: size,
     }
 }
 
@@ -172,14 +142,15 @@ impl Chord {
         let right = rectangle.right;
         let top = rectangle.top;
         let bottom = rectangle.bottom;
-        let width = rectangle.width as u64;
+        let reach = rectangle.width;
+        let width = reach.0 as u64;
         let d = gap(q.sample(), top, bottom);
         if width < d {
             return Chord::none();
         }
         Chord {
-            left: first(left, rectangle.width),
-            right: end(right, rectangle.width),
+            left: left.first_near(reach),
+            right: right.end_near(reach),
             near: left,
             far: right,
             room: width * width - d * d + 1,
@@ -212,9 +183,10 @@ impl Rows {
     {
         let top = rectangle.top;
         let bottom = rectangle.bottom;
+        let reach = rectangle.width;
         Rows {
-            top: first(top, rectangle.width),
-            bottom: end(bottom, rectangle.width),
+            top: top.first_near(reach),
+            bottom: bottom.end_near(reach),
         }
     }
 }
@@ -265,7 +237,7 @@ impl Outline {
         ensures { λ r. ⌜ Narrows self q chord r ⌝ }
     {
         match self {
-            Outline::Segment(segment) => line::run(chord, segment, q),
+            Outline::Segment(segment) => line::columns(chord, segment, q),
             _ => chord,
         }
     }

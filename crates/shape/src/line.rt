@@ -2,7 +2,7 @@
 ghost use mathlib.Core.Bool.{true};
 ghost use mathlib.Core.Path.{_≡_};
 ghost use Prim.Native.Nat.{_≤_, _<_, _^_};
-ghost use Rattle.units.specs.Units.{pixelAt};
+ghost use Rattle.units.specs.Units.{pixelAt, widest};
 ghost use Rattle.action.specs.Ends.{shortEnds};
 ghost use Rattle.shape.specs.Cover.{squared, segmentCovers};
 ghost use Rattle.shape.specs.Lines.{Between, Close, Crosses, FirstCovered, LastCovered, Leans, OnScreen, boxOf, bySquares};
@@ -10,16 +10,15 @@ ghost use Rattle.shape.specs.OneRow.{Narrows, Shown};
 use crate::Chord;
 use crate::Outline;
 use crate::PIXELS;
-use crate::end;
-use crate::first;
-use crate::least;
-use crate::less;
-use crate::most;
 use action::End;
 use action::Rectangle;
 use action::Segment;
+use units::LengthInSixteenths;
 use units::Pixels;
 use units::Sixteenths;
+use units::least;
+use units::less;
+use units::most;
 
 // A segment covers nothing that this rectangle does not.
 pub fn around(segment: Segment) -> Rectangle
@@ -31,13 +30,8 @@ pub fn around(segment: Segment) -> Rectangle
     let ay = from.y;
     let bx = to.x;
     let by = to.y;
-    Rectangle {
-        left: ax.least(bx),
-        top: ay.least(by),
-        right: ax.most(bx),
-        bottom: ay.most(by),
-        width: segment.width,
-    }
+    let width = segment.width;
+    Rectangle::of(ax, ay, bx, by, width)
 }
 
 // The squared distance of two places.
@@ -84,7 +78,7 @@ fn covers(segment: Segment, p: Pixels, q: Pixels) -> bool
 {
     let from = segment.from;
     let to = segment.to;
-    let width = segment.width as u64;
+    let width = segment.width.0 as u64;
     let sample = End {
         x: p.sample(),
         y: q.sample(),
@@ -99,7 +93,7 @@ fn covers(segment: Segment, p: Pixels, q: Pixels) -> bool
 
 // The first column that is covered, or the end.
 fn first_covered(segment: Segment, q: Pixels, from: u64, end: u64) -> u64
-    requires { ⌜ (shortEnds segment ≡ true) × (OnScreen (q .0) × ((pixelAt 0 .0 ≤ from) × (end ≤ pixelAt 800 .0))) ⌝ }
+    requires { ⌜ (shortEnds segment ≡ true) × (OnScreen (q .0) × ((pixelAt 0 .0 ≤ from) × (end ≤ pixelAt widest .0))) ⌝ }
     ensures { λ r. ⌜ FirstCovered segment q from end r ⌝ }
 {
     let mut x = from;
@@ -114,7 +108,7 @@ fn first_covered(segment: Segment, q: Pixels, from: u64, end: u64) -> u64
 
 // The column after the last one that is covered, or the first.
 fn last_covered(segment: Segment, q: Pixels, from: u64, end: u64) -> u64
-    requires { ⌜ (shortEnds segment ≡ true) × (OnScreen (q .0) × ((pixelAt 0 .0 ≤ from) × (end ≤ pixelAt 800 .0))) ⌝ }
+    requires { ⌜ (shortEnds segment ≡ true) × (OnScreen (q .0) × ((pixelAt 0 .0 ≤ from) × (end ≤ pixelAt widest .0))) ⌝ }
     ensures { λ r. ⌜ LastCovered segment q from end r ⌝ }
 {
     let mut x = end;
@@ -135,8 +129,8 @@ fn crossing(more: u64, under: u64, slack: u64, rise: u64) -> Chord
     let low = less(more, under + slack) / rise;
     let high = less(more + slack, under) / rise;
     Chord::flat(
-        first(Sixteenths::short(low), 0),
-        end(Sixteenths::short(high), 0),
+        Sixteenths::short(low).first_near(LengthInSixteenths(0)),
+        Sixteenths::short(high).end_near(LengthInSixteenths(0)),
     )
 }
 
@@ -168,7 +162,7 @@ fn near_line(segment: Segment, q: Pixels) -> Chord
     let ay = from.y;
     let bx = to.x;
     let by = to.y;
-    let slack = segment.width as u64 * (ax.apart(bx) + ay.apart(by));
+    let slack = segment.width.0 as u64 * (ax.apart(bx) + ay.apart(by));
     leaning(
         ax.counted(),
         ay.counted(),
@@ -180,7 +174,7 @@ fn near_line(segment: Segment, q: Pixels) -> Chord
 }
 
 // Of the chord's columns, those from the first to the last that the segment covers: it has no gap.
-pub fn run(chord: Chord, segment: Segment, q: Pixels) -> Chord
+pub fn columns(chord: Chord, segment: Segment, q: Pixels) -> Chord
     requires { ⌜ OnScreen (q .0) × Shown chord ⌝ }
     ensures { λ r. ⌜ Narrows (Outline.Segment segment) q chord r ⌝ }
 {

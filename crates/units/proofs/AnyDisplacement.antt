@@ -5,9 +5,9 @@ use mathlib.Core.Bool.{Bool, true, false}
 use Prim.Native.Nat.{ℕ, zero, suc, _+_, _-_, _*_, _/_, _<_, _≤_}
 use native.Mathlib.Omega.{arith}
 use native.Mathlib.Nat.{mul-le-mul}
-use lib.Dec.{ltb, le→leb}
+use lib.Dec.{ltb, le→leb, lt→ltb}
 use lib.IntN.{ℤ, pos, negsuc, subℕ, natAbs, negℤ, _+ℤ_, _-ℤ_, _*ℤ_, +ℤ-invr, +ℤ-comm, +ℤ-assoc, +ℤ-negℤ-cancel, -ℤ-+ℤ-cancel}
-use lib.Signed.{_≤ℤ_}
+use lib.Signed.{_≤ℤ_, _<ℤ_}
 use borrow.Author.Tests.{lt-ltb, le-ltb, ltb-true, ltb-false}
 use Rattle.units.specs.Units.{floor16}
 
@@ -19,7 +19,7 @@ pub sub-from : (a d : ℕ) → d ≤ a → subℕ a d ≡ pos (a - d)
 sub-from a d h = rw (le-ltb a d h)
 
 -- what holds on either side of d holds of a - d
-by-side : (a d : ℕ) (P : ℤ → Type 0) → (a < d → P (negsuc (d - suc a))) → (d ≤ a → P (pos (a - d))) → P (subℕ a d)
+pub by-side : (a d : ℕ) (P : ℤ → Type 0) → (a < d → P (negsuc (d - suc a))) → (d ≤ a → P (pos (a - d))) → P (subℕ a d)
 by-side a d P below from = go (ltb a d) refl
   where
     go : (t : Bool) → ltb a d ≡ t → P (subℕ a d)
@@ -158,6 +158,15 @@ order-meant d a b l =
     (λ k. record { le = le→leb (d - suc b) (d - suc a) (omega arith) })
     (λ k. record { le = tt }))
     (λ h. rw (sub-from b d (omega arith)) (record { le = le→leb (a - d) (b - d) (omega arith) }))
+
+pub strict-meant : (d a b : ℕ) → a < b → subℕ a d <ℤ subℕ b d
+strict-meant d a b l =
+    by-side a d (λ (z : ℤ). z <ℤ subℕ b d)
+    (λ h.
+    by-side b d (λ (z : ℤ). negsuc (d - suc a) <ℤ z)
+    (λ k. record { lt = lt→ltb (d - suc b) (d - suc a) (omega arith) })
+    (λ k. record { lt = tt }))
+    (λ h. rw (sub-from b d (omega arith)) (record { lt = lt→ltb (a - d) (b - d) (omega arith) }))
 
 -- a number counted from m, added to a
 pub counted-most : (n m : ℕ) → n < m + m → natAbs (subℕ n m) ≤ m

@@ -1,13 +1,11 @@
 -- Each definition on kept numbers means what its contract says, and a number meant is kept in one way. Assumes nothing.
 use mathlib.Core.Path.{_≡_, refl, sym, _∙_, ap}
-use mathlib.Core.Bool.{Bool, true, false, cond}
 use Prim.Native.Nat.{ℕ, _+_, _-_, _*_, _^_, _<_, _≤_}
 use native.Mathlib.Omega.{arith}
-use lib.Dec.{ltb}
 use lib.IntN.{ℤ, pos, natAbs, subℕ, _+ℤ_, _-ℤ_, _*ℤ_}
 use lib.Signed.{_≤ℤ_}
-use borrow.Author.Tests.{ltb-true, ltb-false}
-use Rattle.units.specs.Units.{displacement, meantPixels, meantSixteenths, distance, pixelAt, sixteenthAt, floored, furtherOn, sampled, spaced, leastOf, mostOf, Movable, noShift, meantShift, shiftAt, ShiftOf, PixelOf, FurtherOn, SixteenthOf, MovedBy, Holds, SampledAt, ApartBy}
+use Rattle.units.specs.Units.{displacement, meantPixels, meantSixteenths, distance, pixelAt, sixteenthAt, floored, furtherOn, sampled, spaced, Movable, noTranslation, meantTranslation, translationAt, TranslationOf, PixelOf, FurtherOn, SixteenthOf, MovedBy, Holds, SampledAt, ApartBy}
+use Rattle.units.specs.declared.LengthInPixels.{LengthInPixels}
 use Rattle.units.specs.declared.Pixels.{Pixels}
 use Rattle.units.specs.declared.Sixteenths.{Sixteenths}
 use Rattle.units.proofs.AnyDisplacement.{nearby, meant-once, pixel-meant, moved-meant, origin-meant, meant-kept, floor-meant, times-meant, mean-meant, apart-meant, order-meant, counted-most, counted-sum}
@@ -16,10 +14,10 @@ pub pixel-at : (n : ℕ) → PixelOf n (pixelAt n)
 unfolding meantPixels
 pixel-at n = record { kept = refl; meant = pixel-meant displacement n }
 
-pub further-on : (count : ℕ) (p : Pixels) → FurtherOn count p (furtherOn p count)
+pub further-on : (count : LengthInPixels) (p : Pixels) → FurtherOn count p (furtherOn p count)
 unfolding meantPixels
 further-on count p =
-    record { kept = refl; meant = moved-meant (pos displacement) (pos (p .0)) (pos count) }
+    record { kept = refl; meant = moved-meant (pos displacement) (pos (p .0)) (pos (count .0)) }
 
 pub sixteenth-at : (z : ℤ) → natAbs z ≤ 8 * displacement → SixteenthOf z (sixteenthAt z)
 unfolding meantSixteenths sixteenthAt
@@ -41,16 +39,16 @@ moved-by t s h m =
       meant = ap (λ (y : ℤ). y -ℤ pos (16 * displacement)) (sym (e .sum)) ∙ moved-meant (pos (16 * displacement)) (pos (s .0)) t;
     }
 
-pub shift-of : (t : ℤ) → natAbs t ≤ noShift → ShiftOf t (shiftAt t)
-unfolding meantShift shiftAt
-shift-of t h =
-    let e = nearby noShift noShift t h (omega arith) in
-    record { kept = refl; meant = ap (λ (y : ℤ). y -ℤ pos noShift) (sym (e .sum)) ∙ origin-meant (pos noShift) t }
+pub translation-of : (t : ℤ) → natAbs t ≤ noTranslation → TranslationOf t (translationAt t)
+unfolding meantTranslation translationAt
+translation-of t h =
+    let e = nearby noTranslation noTranslation t h (omega arith) in
+    record { kept = refl; meant = ap (λ (y : ℤ). y -ℤ pos noTranslation) (sym (e .sum)) ∙ origin-meant (pos noTranslation) t }
 
-pub shifted-by : (n : ℕ) (s : Sixteenths) → n < 2 ^ 32 → Movable s → MovedBy (meantShift n) s (record { 0 = s .0 + n - noShift })
-unfolding meantShift
-shifted-by n s l m =
-    rw (sym (counted-sum (s .0) n noShift (m .0))) (moved-by (subℕ n noShift) s (counted-most n noShift l) m)
+pub translated-by : (n : ℕ) (s : Sixteenths) → n < 2 ^ 32 → Movable s → MovedBy (meantTranslation n) s (record { 0 = s .0 + n - noTranslation })
+unfolding meantTranslation
+translated-by n s l m =
+    rw (sym (counted-sum (s .0) n noTranslation (m .0))) (moved-by (subℕ n noTranslation) s (counted-most n noTranslation l) m)
 
 pub floored-holds : (s : Sixteenths) → Holds (floored s) s
 unfolding meantPixels meantSixteenths
@@ -77,7 +75,7 @@ sixteenths-once s t e = meant-once (16 * displacement) (s .0) (t .0) e
 pub pixels-at : {n : ℕ} {p : Pixels} → PixelOf n p → p ≡ pixelAt n
 pixels-at e = ap (λ (n : ℕ). record { 0 = n }) (e .kept)
 
-pub pixels-on : {n : ℕ} {p q : Pixels} → FurtherOn n p q → q ≡ furtherOn p n
+pub pixels-on : {n : LengthInPixels} {p q : Pixels} → FurtherOn n p q → q ≡ furtherOn p n
 pixels-on e = ap (λ (n : ℕ). record { 0 = n }) (e .kept)
 
 pub pixels-holding : {p : Pixels} {s : Sixteenths} → Holds p s → p ≡ floored s
@@ -105,31 +103,6 @@ sampled-moved-at {n} {t} o a m =
 pub in-order : (a b : Sixteenths) → a .0 ≤ b .0 → meantSixteenths a ≤ℤ meantSixteenths b
 unfolding meantSixteenths
 in-order a b l = order-meant (16 * displacement) (a .0) (b .0) l
-
--- the smaller of two kept numbers, and the larger
-pub least-kept : (a b : Sixteenths) → (leastOf a b .0 ≤ a .0) × (leastOf a b .0 ≤ b .0)
-unfolding leastOf
-least-kept a b = go (ltb (b .0) (a .0)) refl
-  where
-    go : (t : Bool) → ltb (b .0) (a .0) ≡ t → (cond t b a .0 ≤ a .0) × (cond t b a .0 ≤ b .0)
-    go true e = let l = ltb-true (b .0) (a .0) e in (omega arith, omega arith)
-    go false e = let l = ltb-false (b .0) (a .0) e in (omega arith, omega arith)
-
-pub most-kept : (a b : Sixteenths) → (a .0 ≤ mostOf a b .0) × (b .0 ≤ mostOf a b .0)
-unfolding mostOf
-most-kept a b = go (ltb (a .0) (b .0)) refl
-  where
-    go : (t : Bool) → ltb (a .0) (b .0) ≡ t → (a .0 ≤ cond t b a .0) × (b .0 ≤ cond t b a .0)
-    go true e = let l = ltb-true (a .0) (b .0) e in (omega arith, omega arith)
-    go false e = let l = ltb-false (a .0) (b .0) e in (omega arith, omega arith)
-
-pub least-meant : (a b : Sixteenths) → (meantSixteenths (leastOf a b) ≤ℤ meantSixteenths a) × (meantSixteenths (leastOf a b) ≤ℤ meantSixteenths b)
-least-meant a b =
-    (in-order _ _ (least-kept a b .0), in-order _ _ (least-kept a b .1))
-
-pub most-meant : (a b : Sixteenths) → (meantSixteenths a ≤ℤ meantSixteenths (mostOf a b)) × (meantSixteenths b ≤ℤ meantSixteenths (mostOf a b))
-most-meant a b =
-    (in-order _ _ (most-kept a b .0), in-order _ _ (most-kept a b .1))
 
 -- the mean of two positions by two weights, as kept and as meant
 pub mean-apart : (k n : ℕ) (a b s : Sixteenths) → distance (pos (k + n) *ℤ meantSixteenths s) (pos k *ℤ meantSixteenths a +ℤ pos n *ℤ meantSixteenths b) ≡ spaced (record { 0 = (k + n) * s .0 }) (record { 0 = k * a .0 + n * b .0 })

@@ -1,8 +1,8 @@
 use mathlib.Core.Path.{_≡_}
-use Prim.Native.Nat.{_+_, _-_, _/_, _^_, _≤_, _<_}
+use Prim.Native.Nat.{_-_, _^_, _≤_}
 use native.Mathlib.Omega.{arith}
 use borrow.Author.Needs.{needs}
-use Rattle.units.specs.Units.{sampled}
+use Rattle.units.specs.Units.{endNear, firstNear, sampled}
 use Rattle.shape.specs.Cover.{outside}
 use Rattle.shape.proofs.Columns.{rectangle-off, rectangle-has}
 use Rattle.shape.proofs.Squares.{square-le}
@@ -23,42 +23,42 @@ none-requires c κs = search needs
 
 returns : tie.Need-returns
 returns c =
-    let s = c .before .before .before .before .before .before .before .before .before .args in
+    let s = c .before .before .before .before .before .before .before .before .before .before .args in
     rw (c .none .ensures) (rectangle-off (s .rectangle) (s .q) (omega arith))
 
-first-requires : tie.Need-first-requires
-first-requires c κs = search needs
+first-near-requires : tie.Need-first-near-requires
+first-near-requires c κs = search needs
 
-end-requires : tie.Need-end-requires
-end-requires c κs = search needs
-
-mul-t13 : tie.Need-mul-t13
-mul-t13 c =
-    let w : c .before .before .before .before .before .before .before .before .before .before .args .rectangle .width ≤ 2 ^ 32 - 1 = omega arith in
-    let h = square-le w in
-    omega arith
+end-near-requires : tie.Need-end-near-requires
+end-near-requires c κs = search needs
 
 mul-t14 : tie.Need-mul-t14
 mul-t14 c =
+    let w : c .before .before .before .before .before .before .before .before .before .before .before .args .rectangle .width .0 ≤ 2 ^ 32 - 1 = omega arith in
+    let h = square-le w in
+    omega arith
+
+mul-t15 : tie.Need-mul-t15
+mul-t15 c =
     let w : c .before .before .before .gap .result ≤ 2 ^ 32 - 1 = omega arith in
     let h = square-le w in
     omega arith
 
-sub-t15 : tie.Need-sub-t15
-sub-t15 c = square-le (c .before .before .if1 .left)
+sub-t16 : tie.Need-sub-t16
+sub-t16 c = square-le (c .before .before .if1 .left)
 
-add-t16 : tie.Need-add-t16
-add-t16 c =
-    let w : c .before .before .before .before .before .before .before .before .before .before .args .rectangle .width ≤ 2 ^ 32 - 1 = omega arith in
+add-t17 : tie.Need-add-t17
+add-t17 c =
+    let w : c .before .before .before .before .before .before .before .before .before .before .before .args .rectangle .width .0 ≤ 2 ^ 32 - 1 = omega arith in
     let h = square-le w in
     omega arith
 
 returns-2 : tie.Need-returns-2
 returns-2 c =
-    let s = c .before .before .before .before .before .before .before .before .before .before .args in
+    let s = c .before .before .before .before .before .before .before .before .before .before .before .args in
     let e : c .before .before .before .gap .result ≡ outside (sampled (s .q)) (s .rectangle .top) (s .rectangle .bottom) = omega arith in
-    let l : c .before .first .result .0 ≤ (s .rectangle .left .0 - s .rectangle .width + 15) / 16 = omega arith in
-    let r : (s .rectangle .right .0 + s .rectangle .width) / 16 < c .end .result .0 = omega arith in
+    let l : c .before .first-near .result .0 ≤ firstNear (s .rectangle .left) (s .rectangle .width) .0 = omega arith in
+    let r : endNear (s .rectangle .right) (s .rectangle .width) .0 ≤ c .end-near .result .0 = omega arith in
     rw e (rectangle-has (s .rectangle) (s .q) _ _ _ (omega arith) (omega arith) l r (omega arith))
 
 pub of-rectangle-spec : {M : Type 1} → statement M
@@ -70,10 +70,10 @@ of-rectangle-spec =
     gap-requires
     none-requires
     returns
-    first-requires
-    end-requires
-    mul-t13
+    first-near-requires
+    end-near-requires
     mul-t14
-    sub-t15
-    add-t16
+    mul-t15
+    sub-t16
+    add-t17
     returns-2)

@@ -4,16 +4,16 @@ use Rattle.shape.proofs.Columns.{rectangle-rows}
 use Rattle.shape.proofs.Rows.of_rectangle.Statement.{statement}
 use Rattle.shape.proofs.Rows.of_rectangle.Tie as tie
 
-first-requires : tie.Need-first-requires
-first-requires c κs = search needs
+first-near-requires : tie.Need-first-near-requires
+first-near-requires c κs = search needs
 
-end-requires : tie.Need-end-requires
-end-requires c κs = search needs
+end-near-requires : tie.Need-end-near-requires
+end-near-requires c κs = search needs
 
 returns : tie.Need-returns
 returns c =
-    let d = c .before .before .before .before .args .rectangle in
+    let d = c .before .before .before .before .before .args .rectangle in
     rectangle-rows d _ (omega arith) (omega arith)
 
 pub of-rectangle-spec : {M : Type 1} → statement M
-of-rectangle-spec = tie.close (tie.spec first-requires end-requires returns)
+of-rectangle-spec = tie.close (tie.spec first-near-requires end-near-requires returns)

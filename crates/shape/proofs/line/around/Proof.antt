@@ -1,24 +1,12 @@
-use Rattle.shape.specs.Lines.{boxOf}
 use borrow.Author.Needs.{needs}
 use Rattle.shape.proofs.line.around.Statement.{statement}
 use Rattle.shape.proofs.line.around.Tie as tie
 
-least-requires : tie.Need-least-requires
-least-requires c κs = search needs
-
-least-requires-2 : tie.Need-least-requires-2
-least-requires-2 c κs = search needs
-
-most-requires : tie.Need-most-requires
-most-requires c κs = search needs
-
-most-requires-2 : tie.Need-most-requires-2
-most-requires-2 c κs = search needs
+of-requires : tie.Need-of-requires
+of-requires c κs = search needs
 
 returns : tie.Need-returns
-unfolding boxOf
-returns c = rw (c .most2 .ensures, c .before .most .ensures, c .before .before .least2 .ensures, c .before .before .before .least .ensures)
+returns c = c .of .ensures
 
 pub around-spec : {M : Type 1} → statement M
-around-spec =
-    tie.close (tie.spec least-requires least-requires-2 most-requires most-requires-2 returns)
+around-spec = tie.close (tie.spec of-requires returns)

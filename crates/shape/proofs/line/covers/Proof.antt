@@ -26,7 +26,7 @@ squared-requires-3 : tie.Need-squared-requires-3
 squared-requires-3 c κs = ends-close _ (c .before .before .before .before .before .before .before .pre .0)
 
 mul-by-squares : tie.Need-mul-by-squares
-mul-by-squares c = let w : c .before .before .before .before .before .before .before .before .args .segment .width ≤ 2 ^ 32 - 1 = omega arith in
+mul-by-squares c = let w : c .before .before .before .before .before .before .before .before .args .segment .width .0 ≤ 2 ^ 32 - 1 = omega arith in
     let h = square-le w in
     omega arith
 

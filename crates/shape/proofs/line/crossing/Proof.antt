@@ -26,14 +26,14 @@ div-high c = search needs
 short-requires : tie.Need-short-requires
 short-requires c κs = omega (arith, div-le-self (c .before .less .result) (c .before .before .args .rise), c .before .less .ensures)
 
-first-requires : tie.Need-first-requires
-first-requires c κs = search needs
+first-near-requires : tie.Need-first-near-requires
+first-near-requires c κs = search needs
 
 short-requires-2 : tie.Need-short-requires-2
 short-requires-2 c κs = omega (arith, div-le-self (c .before .before .less2 .result) (c .before .before .before .before .args .rise), c .before .before .less2 .ensures)
 
-end-requires : tie.Need-end-requires
-end-requires c κs = search needs
+end-near-requires : tie.Need-end-near-requires
+end-near-requires c κs = search needs
 
 flat-requires : tie.Need-flat-requires
 flat-requires c κs = search needs
@@ -43,8 +43,8 @@ returns c =
     let s = c .before .before .before .before .before .before .before in
     rw (c .flat .ensures)
     (crosses (s .args .more) (s .args .under) (s .args .slack) (s .args .rise) _ _ (s .pre .0)
-    (rw (c .before .before .before .before .short .ensures, c .before .before .before .before .before .before .less .ensures) at (c .before .before .before .first .ensures))
-    (rw (c .before .before .short2 .ensures, c .before .before .before .before .before .less2 .ensures) at (c .before .end .ensures)))
+    (rw (c .before .before .before .before .short .ensures, c .before .before .before .before .before .before .less .ensures) at (c .before .before .before .first-near .ensures))
+    (rw (c .before .before .short2 .ensures, c .before .before .before .before .before .less2 .ensures) at (c .before .end-near .ensures)))
 
 pub crossing-spec : {M : Type 1} → statement M
 crossing-spec =
@@ -57,8 +57,8 @@ crossing-spec =
     less-requires-2
     div-high
     short-requires
-    first-requires
+    first-near-requires
     short-requires-2
-    end-requires
+    end-near-requires
     flat-requires
     returns)

@@ -19,7 +19,7 @@ add-slack : tie.Need-add-slack
 add-slack c = omega (arith, ends-close _ (c .before .before .before .before .before .before .before .before .before .pre .0), c .before .apart .ensures .kept, c .apart2 .ensures .kept)
 
 mul-slack : tie.Need-mul-slack
-mul-slack c = let n = ends-close _ (c .before .before .before .before .before .before .before .before .before .pre .0) in omega (arith, slack-small (c .before .before .before .before .before .before .before .before .before .args .segment .width) (c .before .apart .result + c .apart2 .result) (omega arith) (omega (arith, n, c .before .apart .ensures .kept, c .apart2 .ensures .kept)))
+mul-slack c = let n = ends-close _ (c .before .before .before .before .before .before .before .before .before .pre .0) in omega (arith, slack-small (c .before .before .before .before .before .before .before .before .before .args .segment .width .0) (c .before .apart .result + c .apart2 .result) (omega arith) (omega (arith, n, c .before .apart .ensures .kept, c .apart2 .ensures .kept)))
 
 counted-requires : tie.Need-counted-requires
 counted-requires c κs = ends-close _ (c .before .before .before .before .before .before .before .before .before .pre .0) .0 .0 .0
@@ -43,7 +43,7 @@ leaning-requires : tie.Need-leaning-requires
 leaning-requires c κs =
     let s = c .before .before .before .before .before .before .before .before .before .before .before .before .before .before .before in
     let n = ends-close _ (s .pre .0) in
-    let w = slack-small (s .args .segment .width) (c .before .before .before .before .before .before .before .apart .result + c .before .before .before .before .before .before .apart2 .result) (omega arith) (omega (arith, n, c .before .before .before .before .before .before .before .apart .ensures .kept, c .before .before .before .before .before .before .apart2 .ensures .kept)) in (
+    let w = slack-small (s .args .segment .width .0) (c .before .before .before .before .before .before .before .apart .result + c .before .before .before .before .before .before .apart2 .result) (omega arith) (omega (arith, n, c .before .before .before .before .before .before .before .apart .ensures .kept, c .before .before .before .before .before .before .apart2 .ensures .kept)) in (
       ((omega (arith, n, c .before .before .before .before .before .counted .ensures), omega (arith, n, c .before .before .before .before .counted2 .ensures))),
       (
         (omega (arith, n, c .before .before .before .counted3 .ensures), omega (arith, n, c .before .before .counted4 .ensures)),

@@ -1,7 +1,7 @@
 use lib.ListN.{List·getD-eq-default}
 use Rattle.action.specs.declared.numbers.Factor.the-variants.{OneMinusDstAlpha}
 use Rattle.action.specs.Numbers.{factors, factorOf}
-use Rattle.action.proofs.Naming.{past}
+use Rattle.truth.proofs.Arms.{past}
 use Rattle.action.proofs.numbers.Factor.of.Statement.{statement}
 use Rattle.action.proofs.numbers.Factor.of.Tie as tie
 

@@ -1,7 +1,7 @@
 use lib.ListN.{List·getD-eq-default}
 use Rattle.action.specs.declared.numbers.StencilAction.the-variants.{Invert}
 use Rattle.action.specs.Numbers.{stencilActions, stencilActionOf}
-use Rattle.action.proofs.Naming.{past}
+use Rattle.truth.proofs.Arms.{past}
 use Rattle.action.proofs.numbers.StencilAction.of.Statement.{statement}
 use Rattle.action.proofs.numbers.StencilAction.of.Tie as tie
 

@@ -1,7 +1,7 @@
 use lib.ListN.{List·getD-eq-default}
 use Rattle.action.specs.declared.numbers.Test.the-variants.{Always}
 use Rattle.action.specs.Numbers.{tests, testOf}
-use Rattle.action.proofs.Naming.{past}
+use Rattle.truth.proofs.Arms.{past}
 use Rattle.action.proofs.numbers.Test.of.Statement.{statement}
 use Rattle.action.proofs.numbers.Test.of.Tie as tie
 

@@ -6,10 +6,10 @@ use Rattle.action.proofs.shape.Point.is.Statement.{statement}
 use Rattle.action.proofs.shape.Point.is.Tie as tie
 
 abbrev split : Point → (ℕ × ℕ) × ℕ
-split v = ((v .x .0, v .y .0), v .size)
+split v = ((v .x .0, v .y .0), v .size .0)
 
 abbrev join : (ℕ × ℕ) × ℕ → Point
-join p = record { x = record { 0 = p .0 .0 }; y = record { 0 = p .0 .1 }; size = p .1 }
+join p = record { x = record { 0 = p .0 .0 }; y = record { 0 = p .0 .1 }; size = record { 0 = p .1 } }
 
 returns : tie.Need-returns
 returns c =

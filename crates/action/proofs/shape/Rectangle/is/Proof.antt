@@ -6,7 +6,7 @@ use Rattle.action.proofs.shape.Rectangle.is.Statement.{statement}
 use Rattle.action.proofs.shape.Rectangle.is.Tie as tie
 
 abbrev split : Rectangle → (((ℕ × ℕ) × ℕ) × ℕ) × ℕ
-split v = ((((v .left .0, v .top .0), v .right .0), v .bottom .0), v .width)
+split v = ((((v .left .0, v .top .0), v .right .0), v .bottom .0), v .width .0)
 
 abbrev join : (((ℕ × ℕ) × ℕ) × ℕ) × ℕ → Rectangle
 join p = record {
@@ -14,7 +14,7 @@ join p = record {
   top = record { 0 = p .0 .0 .0 .1 };
   right = record { 0 = p .0 .0 .1 };
   bottom = record { 0 = p .0 .1 };
-  width = p .1;
+  width = record { 0 = p .1 };
 }
 
 returns : tie.Need-returns

@@ -8,10 +8,10 @@ use Rattle.action.proofs.shape.Segment.is.Statement.{statement}
 use Rattle.action.proofs.shape.Segment.is.Tie as tie
 
 abbrev split : Segment → ((End × End) × ℕ) × ℕ
-split v = (((v .from, v .to), v .width), v .primitive)
+split v = (((v .from, v .to), v .width .0), v .primitive)
 
 abbrev join : ((End × End) × ℕ) × ℕ → Segment
-join p = record { from = p .0 .0 .0; to = p .0 .0 .1; width = p .0 .1; primitive = p .1 }
+join p = record { from = p .0 .0 .0; to = p .0 .0 .1; width = record { 0 = p .0 .1 }; primitive = p .1 }
 
 is-requires : tie.Need-is-requires
 is-requires c κs = search needs

@@ -1,9 +1,9 @@
-use Rattle.shape.proofs.Narrowing.{run-narrows, far-narrows}
+use Rattle.shape.proofs.Narrowing.{columns-narrow, far-narrows}
 use mathlib.Core.Path.{_∙_, sym}
 use native.Mathlib.Omega.{arith}
 use borrow.Author.Needs.{needs}
-use Rattle.shape.proofs.line.run.Statement.{statement}
-use Rattle.shape.proofs.line.run.Tie as tie
+use Rattle.shape.proofs.line.columns.Statement.{statement}
+use Rattle.shape.proofs.line.columns.Tie as tie
 
 is-short-requires : tie.Need-is-short-requires
 is-short-requires c κs = search needs
@@ -29,7 +29,7 @@ flat-requires c κs = search needs
 returns : tie.Need-returns
 returns c = let s = c .before .before .before .before .before .before .before .before in
     rw (c .flat .ensures)
-    (run-narrows _ _ (s .args .chord) (s .pre .1) (c .before .before .before .before .before .near-line .result) (c .before .before .before .before .before .near-line .ensures) _ _
+    (columns-narrow _ _ (s .args .chord) (s .pre .1) (c .before .before .before .before .before .near-line .result) (c .before .before .before .before .before .near-line .ensures) _ _
     (rw (c .before .before .before .before .most .ensures, c .before .before .before .least .ensures) at (c .before .before .first-covered .ensures))
     (rw (c .before .before .before .least .ensures) at (c .before .last-covered .ensures)))
 
@@ -39,8 +39,8 @@ none-requires c κs = search needs
 returns-2 : tie.Need-returns-2
 returns-2 c = rw (c .none .ensures) (far-narrows _ _ _ (sym (c .before .before .is-short .ensures) ∙ c .before .if1 .left))
 
-pub run-spec : {M : Type 1} → statement M
-run-spec =
+pub columns-spec : {M : Type 1} → statement M
+columns-spec =
     tie.close
     (tie.spec
     is-short-requires
