@@ -6,17 +6,18 @@ use Prim.Native.Nat.{ℕ, _-_, _≤_}
 use Rattle.action.specs.declared.Action.{Action}
 use Rattle.engine.specs.declared.run.Advanced.{Advanced}
 use Rattle.engine.specs.declared.run.Find.the-variants as f
+use Rattle.engine.specs.declared.run.Stop.{Stop}
 use Rattle.engine.specs.Run.{State, Advances, Spent, run, endingOf, then, heard}
 
 module _ (list : List ℕ) (memory allowed : ℕ) (from : State) (a : Advanced) (hs : List ℕ) (h : Advances list memory allowed false from a hs) where
-  pub within : (n p : ℕ) → a .find ≡ f.Over n p → a .left ≤ allowed
+  pub within : (stop : Stop) → a .find ≡ f.Over stop → a .left ≤ allowed
   unfolding Spent
-  within n p e = rw e at (h .spent)
+  within stop e = rw e at (h .spent)
 
   pub never : (d : Action) → a .find ≡ f.Drew d → ⊥
   unfolding Spent
   never d e = let s = rw e at (h .spent) in false≢true (s .0)
 
-  pub ending : (n p : ℕ) → a .find ≡ f.Over n p → record { number = n; place = p; count = allowed - a .left } ≡ endingOf (run list memory allowed from)
+  pub ending : (stop : Stop) → a .find ≡ f.Over stop → record { stop = stop; count = allowed - a .left } ≡ endingOf (run list memory allowed from)
   unfolding then heard
-  ending n p e = sym (ap endingOf (rw e at (h .whole)))
+  ending stop e = sym (ap endingOf (rw e at (h .whole)))

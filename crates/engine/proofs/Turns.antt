@@ -13,7 +13,7 @@ use Rattle.engine.specs.declared.machine.Shape.{Shape}
 use Rattle.engine.specs.declared.machine.Stepped.{Stepped}
 use Rattle.engine.specs.declared.run.Find.the-variants as f
 use Rattle.engine.specs.Kept.{pushed, popped}
-use Rattle.engine.specs.Run.{State, placeOf, stepOf, settled, actionOf, Ran, run, after, counted, more, then, heard}
+use Rattle.engine.specs.Run.{State, placeOf, stepOf, settled, actionOf, stopAt, Ran, run, after, counted, more, then, heard}
 
 -- one word more, counted here or there
 on-count : (allowed left : ℕ) (r : Ran) → 0 < left → left ≤ allowed → more (allowed - left) (counted r) ≡ more (allowed - (left - 1)) r
@@ -22,7 +22,7 @@ on-count allowed left r some within =
     rw k
 
 module _ (list : List ℕ) (memory : ℕ) (x : State) (allowed : ℕ) where
-  pub past : (left : ℕ) → 0 < left → length list ≤ placeOf x → (rest : Ran) → more (allowed - left) (run list memory left x) ≡ then (allowed - left) (f.Over 10 (placeOf x)) rest
+  pub past : (left : ℕ) → 0 < left → length list ≤ placeOf x → (rest : Ran) → more (allowed - left) (run list memory left x) ≡ then (allowed - left) (f.Over (stopAt 10 (placeOf x))) rest
   unfolding run then
   past zero some h rest = absurd (omega arith)
   past (suc n) some h rest =
@@ -79,14 +79,14 @@ module _ (list : List ℕ) (memory : ℕ) (x : State) (allowed : ℕ) where
           rw (turn left some inside, h, k)
 
       pub ended : s .event ≡ e.Ended → (rest : Ran) →
-          more (allowed - left) (run list memory left x) ≡ then (allowed - (left - 1)) (f.Over 0 0) rest
+          more (allowed - left) (run list memory left x) ≡ then (allowed - (left - 1)) (f.Over (stopAt 0 0)) rest
       unfolding after then
       ended h rest =
           let k : allowed - left + 1 ≡ allowed - (left - 1) = omega arith in
           rw (turn left some inside, h, k)
 
       pub faulted : (number : ℕ) → s .event ≡ e.Fault number → (rest : Ran) →
-          more (allowed - left) (run list memory left x) ≡ then (allowed - (left - 1)) (f.Over number (placeOf x)) rest
+          more (allowed - left) (run list memory left x) ≡ then (allowed - (left - 1)) (f.Over (stopAt number (placeOf x))) rest
       unfolding after then
       faulted number h rest =
           let k : allowed - left + 1 ≡ allowed - (left - 1) = omega arith in

@@ -1,6 +1,6 @@
 -- The context: its starting values, and the values that an action takes from it.
 use lib.IntN.{pos}
-use Rattle.units.specs.Units.{pixelAt, shiftAt}
+use Rattle.units.specs.Units.{pixelAt, translationAt}
 use Rattle.action.specs.declared.shape.Area.{Area}
 use Rattle.action.specs.declared.ink.Ink.{Ink}
 use Rattle.action.specs.Numbers.{testOf, stencilActionOf, factorOf}
@@ -42,8 +42,8 @@ starting =
             pointsize = 16;
             linewidth = 16;
             frac = 4;
-            dx = shiftAt (pos 0);
-            dy = shiftAt (pos 0);
+            dx = translationAt (pos 0);
+            dy = translationAt (pos 0);
             handle = 0;
             cell = 0;
           };
@@ -63,4 +63,4 @@ inkOf b =
 
 -- the scissor: so many pixels wide and high from its left and top ones on
 unfoldable pub scissorOf : Placing → Area
-scissorOf p = coverOf (pixelAt (p .left)) (pixelAt (p .top)) (p .width) (p .height)
+scissorOf p = coverOf (pixelAt (p .left)) (pixelAt (p .top)) (record { 0 = p .width }) (record { 0 = p .height })

@@ -1,20 +1,19 @@
 -- One command: what it does to the machine and to the handles, and what it tells. Document 01, 'Words and state' and the rows 11 to 18 of
 -- 'Number table', and wish 1 of document 02; where they are silent the guide's section of the command.
-use mathlib.Core.Bool.{Bool, cond}
+use mathlib.Core.Bool.{Bool, cond, _&&_, _||_}
 use mathlib.Core.List.{List, [], _∷_, _++_}
 use Prim.Native.Nat.{ℕ, _+_, _-_, _*_, _%_, _^_}
 use lib.Dec.{eqb, leb}
 use lib.IntN.{ℤ, pos, _+ℤ_, _*ℤ_}
 use lib.ListN.{getD, replicate, take, drop}
-use Rattle.units.specs.Units.{sixteenthAt, meantShift, shiftAt, leastOf, mostOf}
-use Rattle.words.specs.Fields.{both, either}
+use Rattle.units.specs.Units.{sixteenthAt, meantTranslation, translationAt}
 use Rattle.words.specs.Words.{readWord}
 use Rattle.words.specs.declared.reading.Read.{Read}
 use Rattle.words.specs.declared.reading.Read.the-variants as r
 use Rattle.words.specs.declared.word.Word.{Word}
 use Rattle.words.specs.declared.word.Word.the-variants as v
-use Rattle.action.specs.declared.shape.Rectangle.{Rectangle}
 use Rattle.action.specs.declared.shape.Segment.{Segment}
+use Rattle.action.specs.Corners.{cornersInOrder}
 use Rattle.action.specs.Ends.{shortEnds}
 use Rattle.engine.specs.declared.context.Placing.{Placing}
 use Rattle.engine.specs.declared.handles.Judged.{Judged}
@@ -72,13 +71,13 @@ beginning m primitive =
 -- NOT DRAWN YET. 'Primitives: BITMAPS, POINTS, RECTS. Formats: L8 (3), RGB565 (7), ARGB1555 (0). Not drawn yet: .. filter 1, wrap 1.', and of lines:
 -- '13 no longer covers primitives 3 and 4'
 unfoldable pub drawnFormat : ℕ → Bool
-drawnFormat n = either (eqb n 0) (either (eqb n 3) (eqb n 7))
+drawnFormat n = eqb n 0 || eqb n 3 || eqb n 7
 
 unfoldable pub drawnSize : ℕ → ℕ → ℕ → Bool
-drawnSize filter wrapx wrapy = both (eqb filter 0) (both (eqb wrapx 0) (eqb wrapy 0))
+drawnSize filter wrapx wrapy = eqb filter 0 && eqb wrapx 0 && eqb wrapy 0
 
 unfoldable pub drawnPrimitive : ℕ → Bool
-drawnPrimitive n = either (eqb n 1) (either (eqb n 2) (either (eqb n 3) (either (eqb n 4) (eqb n 9))))
+drawnPrimitive n = eqb n 1 || eqb n 2 || eqb n 3 || eqb n 4 || eqb n 9
 
 -- A VERTEX. 'A VERTEX2F number is multiplied by 2^(4-frac), a VERTEX2II number by 16, then the translation is added.'
 abbrev pub unitOf : ℕ → ℕ
@@ -87,8 +86,8 @@ unitOf frac = 2 ^ (4 - frac)
 unfoldable pub placed2f : Placing → ℤ → ℤ → Vertex
 placed2f p x y =
     record {
-      x = sixteenthAt (x *ℤ pos (unitOf (p .frac)) +ℤ meantShift (p .dx));
-      y = sixteenthAt (y *ℤ pos (unitOf (p .frac)) +ℤ meantShift (p .dy));
+      x = sixteenthAt (x *ℤ pos (unitOf (p .frac)) +ℤ meantTranslation (p .dx));
+      y = sixteenthAt (y *ℤ pos (unitOf (p .frac)) +ℤ meantTranslation (p .dy));
       handle = p .handle;
       cell = p .cell;
     }
@@ -96,8 +95,8 @@ placed2f p x y =
 unfoldable pub placed2ii : Placing → ℕ → ℕ → ℕ → ℕ → Vertex
 placed2ii p x y handle cell =
     record {
-      x = sixteenthAt (pos (16 * x) +ℤ meantShift (p .dx));
-      y = sixteenthAt (pos (16 * y) +ℤ meantShift (p .dy));
+      x = sixteenthAt (pos (16 * x) +ℤ meantTranslation (p .dx));
+      y = sixteenthAt (pos (16 * y) +ℤ meantTranslation (p .dy));
       handle = handle;
       cell = cell;
     }
@@ -105,22 +104,14 @@ placed2ii p x y handle cell =
 abbrev pub openedAt : Vertex → Corner
 openedAt v = record { x = v .x; y = v .y; waits = 1 }
 
--- 'corners are put in order, x and y apart'
-unfoldable pub rectangleOf : Corner → Vertex → ℕ → Rectangle
-rectangleOf c v width =
-    record {
-      left = leastOf (c .x) (v .x);
-      top = leastOf (c .y) (v .y);
-      right = mostOf (c .x) (v .x);
-      bottom = mostOf (c .y) (v .y);
-      width = width;
-    }
-
 abbrev pub clears : ℕ → ℕ → ℕ → Event
 clears colour stencil tag = e.Draw (s.Clear (record { colour = colour; stencil = stencil; tag = tag }))
 
 abbrev pub pointed : Vertex → ℕ → Event
-pointed v size = e.Draw (s.Point (record { x = v .x; y = v .y; size = size }))
+pointed v size = e.Draw (s.Point (record { x = v .x; y = v .y; size = record { 0 = size } }))
+
+abbrev pub rectangled : Corner → Vertex → ℕ → Event
+rectangled c v width = e.Draw (s.Rectangle (cornersInOrder (c .x) (c .y) (v .x) (v .y) (record { 0 = width })))
 
 abbrev pub bitmapped : Judged → Event
 bitmapped (j.Drawable b) = e.Draw (s.Bitmap b)
@@ -133,21 +124,21 @@ cornered m v =
     (record { machine = withCorner m (openedAt v); event = e.Quiet })
     (record {
       machine = withCorner m (closed (m .corner));
-      event = e.Draw (s.Rectangle (rectangleOf (m .corner) v (m .context .placing .linewidth)));
+      event = rectangled (m .corner) v (m .context .placing .linewidth);
     })
 
 -- LINES. 'Ends are placed as corners are and compared in the order given; a segment uses the state at its second end.'
 unfoldable pub segmentFrom : Corner → Vertex → ℕ → ℕ → Segment
 segmentFrom c v width primitive =
-    record { from = record { x = c .x; y = c .y }; to = record { x = v .x; y = v .y }; width = width; primitive = primitive }
+    record { from = record { x = c .x; y = c .y }; to = record { x = v .x; y = v .y }; width = record { 0 = width }; primitive = primitive }
 
 -- '20 when an end lies outside -32768..32767 sixteenths, .. at the vertex that completes the segment'
 unfoldable pub segmented : Segment → Event
 segmented d = cond (shortEnds d) (e.Draw (s.Segment d)) (e.Fault 20)
 
 -- a vertex that finds no open end opens one; else it completes a segment and leaves `next`, open or closed
-abbrev pub ended : Machine → Vertex → Corner → Stepped
-ended m v next =
+abbrev pub linked : Machine → Vertex → Corner → Stepped
+linked m v next =
     cond (eqb (m .corner .waits) 0)
     (record { machine = withCorner m (openedAt v); event = e.Quiet })
     (record { machine = withCorner m next; event = segmented (segmentFrom (m .corner) v (m .context .placing .linewidth) (m .primitive)) })
@@ -157,8 +148,8 @@ unfoldable pub vertexed : Machine → List ℕ → ℕ → Vertex → Stepped
 vertexed m hs memory v =
     cond (eqb (m .primitive) 1) (record { machine = m; event = bitmapped (judged (handleAt hs (v .handle)) v memory) })
     (cond (eqb (m .primitive) 2) (record { machine = m; event = pointed v (m .context .placing .pointsize) })
-    (cond (eqb (m .primitive) 3) (ended m v (closed (m .corner)))
-    (cond (eqb (m .primitive) 4) (ended m v (openedAt v))
+    (cond (eqb (m .primitive) 3) (linked m v (closed (m .corner)))
+    (cond (eqb (m .primitive) 4) (linked m v (openedAt v))
     (cond (eqb (m .primitive) 9) (cornered m v)
     (record { machine = m; event = e.Fault 17 })))))
 
@@ -229,8 +220,8 @@ obeys m hs (v.VertexFormat frac) = quietly (withPlacing m (formatted (m .context
 obeys m hs (v.BitmapLayoutH linestride height) = quietly m (laidOutHigh hs (m .context .placing .handle) linestride height)
 obeys m hs (v.BitmapSizeH width height) = quietly m (sizedHigh hs (m .context .placing .handle) width height)
 obeys m hs (v.PaletteSource addr) = faulty m hs 13
-obeys m hs (v.VertexTranslateX x) = quietly (withPlacing m (movedAcross (m .context .placing) (shiftAt x))) hs
-obeys m hs (v.VertexTranslateY y) = quietly (withPlacing m (movedDown (m .context .placing) (shiftAt y))) hs
+obeys m hs (v.VertexTranslateX x) = quietly (withPlacing m (movedAcross (m .context .placing) (translationAt x))) hs
+obeys m hs (v.VertexTranslateY y) = quietly (withPlacing m (movedDown (m .context .placing) (translationAt y))) hs
 obeys m hs v.Nop = quietly m hs
 
 -- A WORD: 11 and 12 as it is read, else the command, and a vertex drawn

@@ -4,7 +4,7 @@
 use mathlib.Core.Path.{_≡_}
 use mathlib.Core.Bool.{Bool, true, false, cond, _&&_}
 use mathlib.Core.List.{List, [], _∷_}
-use Prim.Native.Nat.{ℕ, zero, suc, _+_, _-_, _<_, _≤_}
+use Prim.Native.Nat.{ℕ, zero, suc, _+_, _-_, _^_, _<_, _≤_}
 use lib.Dec.{ltb, leb}
 use lib.ListN.{length, replicate}
 use Rattle.action.specs.declared.Action.{Action}
@@ -16,6 +16,7 @@ use Rattle.engine.specs.declared.run.Advanced.{Advanced}
 use Rattle.engine.specs.declared.run.Ending.{Ending}
 use Rattle.engine.specs.declared.run.Find.{Find}
 use Rattle.engine.specs.declared.run.Find.the-variants as f
+use Rattle.engine.specs.declared.run.Stop.{Stop}
 use Rattle.engine.specs.declared.context.Context.{Context}
 use Rattle.engine.specs.declared.kept.Engine.{Engine}
 use Rattle.engine.specs.declared.kept.Kept.{Kept}
@@ -27,8 +28,20 @@ use Rattle.engine.specs.declared.machine.Shape.{Shape}
 use Rattle.engine.specs.declared.machine.Shape.the-variants as s
 use Rattle.engine.specs.Changes.{withPlace}
 use Rattle.engine.specs.Context.{inkOf, scissorOf}
+use Rattle.engine.specs.Handles.{settings}
 use Rattle.engine.specs.Kept.{begun, pushed, popped}
 use Rattle.engine.specs.Machine.{Steps, steps}
+
+-- THE LIMITS. 'List: 4..8,192 bytes', 'Graphics memory (RAM_G): 0..1,048,576 bytes'. A run takes any list and memory that are no longer than this.
+abbrev pub mostList : ℕ
+mostList = 8192
+
+abbrev pub mostMemory : ℕ
+mostMemory = 2 ^ 20
+
+-- a list, and how long RAM_G is
+abbrev pub WithinLimits : List ℕ → ℕ → Type 0
+WithinLimits list memory = (length list ≤ mostList) × (memory ≤ mostMemory)
 
 -- AN ACTION: a shape, with the context's values that document 01 lists under 'An action's values'
 abbrev pub clearOf : Context → Flags → Clear
@@ -79,19 +92,21 @@ nextOf list memory x =
 -- THE RUN, by recursion on the words still allowed
 pub record Ran : Type 0 where
   pub actions : List Action
-  pub number : ℕ
-  pub place : ℕ
+  pub stop : Stop
   pub count : ℕ
 
-abbrev pub stopped : ℕ → ℕ → ℕ → Ran
-stopped number place count = record { actions = []; number = number; place = place; count = count }
+abbrev pub stopAt : ℕ → ℕ → Stop
+stopAt number place = record { number = number; place = place }
+
+abbrev pub stopped : Stop → ℕ → Ran
+stopped stop count = record { actions = []; stop = stop; count = count }
 
 -- one word more was fetched
 abbrev pub counted : Ran → Ran
-counted r = record { actions = r .actions; number = r .number; place = r .place; count = r .count + 1 }
+counted r = record { actions = r .actions; stop = r .stop; count = r .count + 1 }
 
 abbrev pub acted : Action → Ran → Ran
-acted a r = record { actions = a ∷ r .actions; number = r .number; place = r .place; count = r .count }
+acted a r = record { actions = a ∷ r .actions; stop = r .stop; count = r .count }
 
 -- what each event stands for: the word at a place, and then the rest of the run. `c` is the context that the word left
 unfoldable pub after : ℕ → Context → Event → Ran → Ran
@@ -99,31 +114,38 @@ after at c e.Quiet rest = counted rest
 after at c e.Save rest = counted rest
 after at c e.Restore rest = counted rest
 after at c (e.Draw shape) rest = acted (actionOf c shape) (counted rest)
-after at c e.Ended rest = stopped 0 0 1
-after at c (e.Fault number) rest = stopped number at 1
+after at c e.Ended rest = stopped (stopAt 0 0) 1
+after at c (e.Fault number) rest = stopped (stopAt number at) 1
 
 -- 19 before 10, and both before the word is looked at
 unfoldable pub run : List ℕ → ℕ → ℕ → State → Ran
-run list memory zero x = stopped 19 (placeOf x) 0
+run list memory zero x = stopped (stopAt 19 (placeOf x)) 0
 run list memory (suc n) x =
     cond (ltb (placeOf x) (length list))
     (after (placeOf x) (nextOf list memory x .engine .now .context) (eventOf list memory x) (run list memory n (nextOf list memory x)))
-    (stopped 10 (placeOf x) 0)
+    (stopped (stopAt 10 (placeOf x)) 0)
 
 -- 'Every run starts with all handles unset.'
 abbrev pub atStart : State
-atStart = record { engine = begun; handles = replicate 512 0 }
+atStart = record { engine = begun; handles = replicate settings 0 }
+
+-- the run of a whole list, over a RAM_G of so many bytes and with so many words allowed
+abbrev pub runOf : List ℕ → ℕ → ℕ → Ran
+runOf list memory limit = run list memory limit atStart
+
+abbrev pub actionsOf : List ℕ → ℕ → ℕ → List Action
+actionsOf list memory limit = runOf list memory limit .actions
 
 abbrev pub endingOf : Ran → Ending
-endingOf r = record { number = r .number; place = r .place; count = r .count }
+endingOf r = record { stop = r .stop; count = r .count }
 
 -- THE NEXT ACTION. What was found first and then the rest of the run, when so many words were fetched up to it
 abbrev pub more : ℕ → Ran → Ran
-more k r = record { actions = r .actions; number = r .number; place = r .place; count = k + r .count }
+more k r = record { actions = r .actions; stop = r .stop; count = k + r .count }
 
 unfoldable pub then : ℕ → Find → Ran → Ran
 then k (f.Drew action) rest = acted action (more k rest)
-then k (f.Over number place) rest = stopped number place k
+then k (f.Over stop) rest = stopped stop k
 
 -- a context is kept
 unfoldable pub isKept : ℕ → Bool
@@ -135,12 +157,12 @@ found now kept left find = record { engine = record { now = now; kept = kept }; 
 -- a run of which the actions are asked for, or only how it ends
 unfoldable pub heard : Bool → Ran → Ran
 heard true r = r
-heard false r = stopped (r .number) (r .place) (r .count)
+heard false r = stopped (r .stop) (r .count)
 
 -- an action is found only where it is asked for, and took a word at least
 unfoldable pub Spent : Bool → ℕ → ℕ → Find → Type 0
 Spent halt allowed left (f.Drew action) = (halt ≡ true) × (left < allowed)
-Spent halt allowed left (f.Over number place) = left ≤ allowed
+Spent halt allowed left (f.Over stop) = left ≤ allowed
 
 -- the contract of `advance`: what it answers, with the run from there, is the whole run from here
 pub record Advances (list : List ℕ) (memory allowed : ℕ) (halt : Bool) (from : State) (a : Advanced) (after : List ℕ) : Type 0 where

@@ -14,6 +14,7 @@ use action::StencilAction;
 use action::StencilActions;
 use action::StencilTest;
 use action::Test;
+use units::LengthInPixels;
 use units::Pixels;
 
 // What every drawing but a CLEAR is drawn with: colour, tag, tests, stencil actions, blend.
@@ -34,7 +35,8 @@ pub struct Brush {
     pub target: u32,
 }
 
-// Where it is drawn and how large: scissor, sizes, what places a vertex (the translation as two shifts), the current handle and cell.
+// Where it is drawn and how large: scissor, sizes, what places a vertex, the current handle and cell. Every size and width is kept
+// as the plain number of its command, since a word that sets one is then a store and no more; it gets its count as a shape or an area is made of it.
 pub struct Placing {
     pub left: u32,
     pub top: u32,
@@ -92,7 +94,7 @@ impl Context {
             stencil: 0,
             tag: 0,
         };
-        let still = units::shift(0);
+        let still = units::translate(0);
         let placing = Placing {
             left: 0,
             top: 0,
@@ -158,8 +160,8 @@ impl Context {
         cover(
             Pixels::of(p.left),
             Pixels::of(p.top),
-            p.width as u64,
-            p.height as u64,
+            LengthInPixels(p.width as u64),
+            LengthInPixels(p.height as u64),
         )
     }
 }

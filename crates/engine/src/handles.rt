@@ -7,12 +7,16 @@
 //   9 the high bits of the stride, 10 of the layout's height, 11 of the width, 12 of the height
 ghost use mathlib.Core.Path.{_≡_};
 ghost use Prim.Native.Nat.{_+_, _*_, _%_, _≤_, _<_, _^_};
+ghost use Rattle.engine.specs.Run.{mostMemory};
 ghost use Rattle.engine.specs.Handles.{put, get, sourced, laidOut, sized, laidOutHigh, sizedHigh, given, joined, handleAt, coverOf, judged, Narrow};
 use action::Area;
 use action::Bitmap;
 use action::Format;
+use units::LengthInPixels;
 use units::Pixels;
 use units::Sixteenths;
+
+pub const SETTINGS: usize = 512;
 
 // What the words of one handle come to, main words and H words together.
 pub struct Handle {
@@ -21,8 +25,8 @@ pub struct Handle {
     pub format: u32,
     pub stride: u64,
     pub rows: u64,
-    pub width: u64,
-    pub height: u64,
+    pub width: LengthInPixels,
+    pub height: LengthInPixels,
 }
 
 // A vertex placed on the screen, with the handle and cell that it draws if BITMAPS is begun.
@@ -33,7 +37,7 @@ pub struct Vertex {
     pub cell: u32,
 }
 
-fn put(handles: &mut [u32; 512], handle: u32, place: u32, value: u32)
+fn put(handles: &mut [u32; SETTINGS], handle: u32, place: u32, value: u32)
     requires { ⌜ place < 16 ⌝ }
     ensures { λ r. ⌜ now (handles .exit) ≡ put (now (handles .entry)) handle place value ⌝ }
 {
@@ -41,7 +45,7 @@ fn put(handles: &mut [u32; 512], handle: u32, place: u32, value: u32)
     handles[k] = value;
 }
 
-fn get(handles: &[u32; 512], handle: u32, place: u32) -> u32
+fn get(handles: &[u32; SETTINGS], handle: u32, place: u32) -> u32
     requires { ⌜ place < 16 ⌝ }
     ensures { λ r. ⌜ r ≡ get (now (handles .entry)) handle place ⌝ }
 {
@@ -49,14 +53,14 @@ fn get(handles: &[u32; 512], handle: u32, place: u32) -> u32
     handles[k]
 }
 
-pub fn put_source(handles: &mut [u32; 512], handle: u32, address: u32)
+pub fn put_source(handles: &mut [u32; SETTINGS], handle: u32, address: u32)
     ensures { λ r. ⌜ now (handles .exit) ≡ sourced (now (handles .entry)) handle address ⌝ }
 {
     put(handles, handle, 0, 1);
     put(handles, handle, 1, address);
 }
 
-pub fn put_layout(handles: &mut [u32; 512], handle: u32, format: u32, stride: u32, height: u32)
+pub fn put_layout(handles: &mut [u32; SETTINGS], handle: u32, format: u32, stride: u32, height: u32)
     ensures { λ r. ⌜ now (handles .exit) ≡ laidOut (now (handles .entry)) handle format stride height ⌝ }
 {
     put(handles, handle, 2, 1);
@@ -65,7 +69,7 @@ pub fn put_layout(handles: &mut [u32; 512], handle: u32, format: u32, stride: u3
     put(handles, handle, 5, height);
 }
 
-pub fn put_size(handles: &mut [u32; 512], handle: u32, width: u32, height: u32)
+pub fn put_size(handles: &mut [u32; SETTINGS], handle: u32, width: u32, height: u32)
     ensures { λ r. ⌜ now (handles .exit) ≡ sized (now (handles .entry)) handle width height ⌝ }
 {
     put(handles, handle, 6, 1);
@@ -73,14 +77,14 @@ pub fn put_size(handles: &mut [u32; 512], handle: u32, width: u32, height: u32)
     put(handles, handle, 8, height);
 }
 
-pub fn put_layout_high(handles: &mut [u32; 512], handle: u32, stride: u32, height: u32)
+pub fn put_layout_high(handles: &mut [u32; SETTINGS], handle: u32, stride: u32, height: u32)
     ensures { λ r. ⌜ now (handles .exit) ≡ laidOutHigh (now (handles .entry)) handle stride height ⌝ }
 {
     put(handles, handle, 9, stride);
     put(handles, handle, 10, height);
 }
 
-pub fn put_size_high(handles: &mut [u32; 512], handle: u32, width: u32, height: u32)
+pub fn put_size_high(handles: &mut [u32; SETTINGS], handle: u32, width: u32, height: u32)
     ensures { λ r. ⌜ now (handles .exit) ≡ sizedHigh (now (handles .entry)) handle width height ⌝ }
 {
     put(handles, handle, 11, width);
@@ -88,7 +92,7 @@ pub fn put_size_high(handles: &mut [u32; 512], handle: u32, width: u32, height: 
 }
 
 // A number whose low bits are in one place and whose high bits, which count so many times as much, in another.
-fn joined(handles: &[u32; 512], handle: u32, low: u32, high: u32, power: u32) -> u64
+fn joined(handles: &[u32; SETTINGS], handle: u32, low: u32, high: u32, power: u32) -> u64
     requires { ⌜ (low < 16) × ((high < 16) × (power ≤ 1024)) ⌝ }
     ensures { λ r. ⌜ r ≡ joined (now (handles .entry)) handle low high power ⌝ }
     ensures { λ r. ⌜ r < 2 ^ 43 ⌝ }
@@ -98,19 +102,13 @@ fn joined(handles: &[u32; 512], handle: u32, low: u32, high: u32, power: u32) ->
     below as u64 + power as u64 * above as u64
 }
 
-fn is_given(handles: &[u32; 512], handle: u32) -> bool
+fn is_given(handles: &[u32; SETTINGS], handle: u32) -> bool
     ensures { λ r. ⌜ r ≡ given (now (handles .entry)) handle ⌝ }
 {
-    if get(handles, handle, 0) != 1 {
-        return false;
-    }
-    if get(handles, handle, 2) != 1 {
-        return false;
-    }
-    get(handles, handle, 6) == 1
+    (get(handles, handle, 0) == 1) & (get(handles, handle, 2) == 1) & (get(handles, handle, 6) == 1)
 }
 
-pub fn handle_at(handles: &[u32; 512], handle: u32) -> Handle
+pub fn handle_at(handles: &[u32; SETTINGS], handle: u32) -> Handle
     ensures { λ r. ⌜ r ≡ handleAt (now (handles .entry)) handle ⌝ }
     ensures { λ r. ⌜ Narrow r ⌝ }
 {
@@ -120,14 +118,14 @@ pub fn handle_at(handles: &[u32; 512], handle: u32) -> Handle
         format: get(handles, handle, 3),
         stride: joined(handles, handle, 4, 9, 1024),
         rows: joined(handles, handle, 5, 10, 512),
-        width: joined(handles, handle, 7, 11, 512),
-        height: joined(handles, handle, 8, 12, 512),
+        width: LengthInPixels(joined(handles, handle, 7, 11, 512)),
+        height: LengthInPixels(joined(handles, handle, 8, 12, 512)),
     }
 }
 
 // The pixels from a top left one on, so many wide and high.
-pub fn cover(left: Pixels, top: Pixels, width: u64, height: u64) -> Area
-    requires { ⌜ ((left .0 < 2 ^ 63) × (top .0 < 2 ^ 63)) × ((width < 2 ^ 63) × (height < 2 ^ 63)) ⌝ }
+pub fn cover(left: Pixels, top: Pixels, width: LengthInPixels, height: LengthInPixels) -> Area
+    requires { ⌜ ((left .0 < 2 ^ 63) × (top .0 < 2 ^ 63)) × ((width .0 < 2 ^ 63) × (height .0 < 2 ^ 63)) ⌝ }
     ensures { λ r. ⌜ r ≡ coverOf left top width height ⌝ }
 {
     let right = left.on(width);
@@ -148,7 +146,7 @@ pub enum Judged {
 // Number 18, or the bitmap that the vertex draws. A stride, a height or a cell longer than RAM_G is refused before it is
 // multiplied, so that no product is too large for its type.
 pub fn judge(h: Handle, v: Vertex, memory: u32) -> Judged
-    requires { ⌜ Narrow h × (memory ≤ 2 ^ 20) ⌝ }
+    requires { ⌜ Narrow h × (memory ≤ mostMemory) ⌝ }
     ensures { λ r. ⌜ r ≡ judged h v memory ⌝ }
 {
     let room = memory as u64;
@@ -161,10 +159,10 @@ pub fn judge(h: Handle, v: Vertex, memory: u32) -> Judged
     if h.rows == 0 {
         return Judged::Undrawable;
     }
-    if h.width == 0 {
+    if h.width.0 == 0 {
         return Judged::Undrawable;
     }
-    if h.height == 0 {
+    if h.height.0 == 0 {
         return Judged::Undrawable;
     }
     if room < h.stride {
@@ -191,7 +189,9 @@ pub fn judge(h: Handle, v: Vertex, memory: u32) -> Judged
     }
     let x = v.x;
     let y = v.y;
-    let area = cover(x.floor(), y.floor(), h.width, h.height);
+    let width = h.width;
+    let height = h.height;
+    let area = cover(x.floor(), y.floor(), width, height);
     Judged::Drawable(Bitmap {
         area: area,
         start: start as u32,

@@ -8,9 +8,11 @@ mod kept;
 mod machine;
 mod run;
 
+pub use handles::SETTINGS;
 pub use kept::Engine;
 pub use run::Advanced;
 pub use run::Ending;
 pub use run::Find;
+pub use run::Stop;
 pub use run::advance;
 pub use run::finish;

@@ -3,11 +3,13 @@
 ghost use mathlib.Core.Path.{_≡_};
 ghost use Prim.Native.Nat.{_≤_, _<_, _+_, _-_, _^_};
 ghost use Rattle.engine.specs.Handles.{judged, Narrow};
-ghost use Rattle.engine.specs.Machine.{started, called, returned, drawnFormat, drawnSize, drawnPrimitive, unitOf, placed2f, placed2ii, rectangleOf, openedAt, clears, pointed, bitmapped, segmentFrom, segmented, vertexed, obeys, steps};
+ghost use Rattle.engine.specs.Run.{mostMemory};
+ghost use Rattle.engine.specs.Machine.{started, called, returned, drawnFormat, drawnSize, drawnPrimitive, unitOf, placed2f, placed2ii, openedAt, clears, pointed, rectangled, bitmapped, segmentFrom, segmented, vertexed, obeys, steps};
 use crate::context::Context;
 use crate::context::Placing;
 use crate::handles::Handle;
 use crate::handles::Judged;
+use crate::handles::SETTINGS;
 use crate::handles::Vertex;
 use crate::handles::handle_at;
 use crate::handles::judge;
@@ -21,6 +23,7 @@ use action::End;
 use action::Point;
 use action::Rectangle;
 use action::Segment;
+use units::LengthInSixteenths;
 use units::Pixels;
 use units::Sixteenths;
 use words::Read;
@@ -91,39 +94,21 @@ pub struct Obeyed {
 fn is_drawn_format(format: u32) -> bool
     ensures { λ r. ⌜ r ≡ drawnFormat format ⌝ }
 {
-    match format {
-        0 => true,
-        3 => true,
-        7 => true,
-        _ => false,
-    }
+    (format == 0) | (format == 3) | (format == 7)
 }
 
 // Neither filter 1 nor a wrap 1 is drawn yet.
 fn is_drawn_size(filter: u32, wrapx: u32, wrapy: u32) -> bool
     ensures { λ r. ⌜ r ≡ drawnSize filter wrapx wrapy ⌝ }
 {
-    if filter != 0 {
-        return false;
-    }
-    if wrapx != 0 {
-        return false;
-    }
-    wrapy == 0
+    (filter == 0) & (wrapx == 0) & (wrapy == 0)
 }
 
 // BITMAPS, POINTS, LINES, LINE_STRIP and RECTS.
 fn is_drawn_primitive(primitive: u32) -> bool
     ensures { λ r. ⌜ r ≡ drawnPrimitive primitive ⌝ }
 {
-    match primitive {
-        1 => true,
-        2 => true,
-        3 => true,
-        4 => true,
-        9 => true,
-        _ => false,
-    }
+    (primitive == 1) | (primitive == 2) | (primitive == 3) | (primitive == 4) | (primitive == 9)
 }
 
 // How many sixteenths VERTEX2F counts by.
@@ -167,23 +152,6 @@ fn place2ii(p: Placing, x: u32, y: u32, handle: u32, cell: u32) -> Vertex
     }
 }
 
-// The rectangle of two corners, which are put in order, x and y apart.
-fn rectangle(c: Corner, v: Vertex, width: u32) -> Rectangle
-    ensures { λ r. ⌜ r ≡ rectangleOf c v width ⌝ }
-{
-    let cx = c.x;
-    let cy = c.y;
-    let vx = v.x;
-    let vy = v.y;
-    Rectangle {
-        left: cx.least(vx),
-        top: cy.least(vy),
-        right: cx.most(vx),
-        bottom: cy.most(vy),
-        width: width,
-    }
-}
-
 // The segment from the open end to the vertex.
 fn segment(c: Corner, v: Vertex, width: u32, primitive: u32) -> Segment
     ensures { λ r. ⌜ r ≡ segmentFrom c v width primitive ⌝ }
@@ -197,7 +165,7 @@ fn segment(c: Corner, v: Vertex, width: u32, primitive: u32) -> Segment
     Segment {
         from: from,
         to: to,
-        width: width,
+        width: LengthInSixteenths(width),
         primitive: primitive,
     }
 }
@@ -233,15 +201,19 @@ fn point_event(v: Vertex, size: u32) -> Event
     let point = Point {
         x: x,
         y: y,
-        size: size,
+        size: LengthInSixteenths(size),
     };
     Event::Draw(Shape::Point(point))
 }
 
 fn rectangle_event(c: Corner, v: Vertex, width: u32) -> Event
-    ensures { λ r. ⌜ r ≡ Event.Draw (Shape.Rectangle (rectangleOf c v width)) ⌝ }
+    ensures { λ r. ⌜ r ≡ rectangled c v width ⌝ }
 {
-    let drawn = rectangle(c, v, width);
+    let cx = c.x;
+    let cy = c.y;
+    let vx = v.x;
+    let vy = v.y;
+    let drawn = Rectangle::of(cx, cy, vx, vy, LengthInSixteenths(width));
     Event::Draw(Shape::Rectangle(drawn))
 }
 
@@ -256,7 +228,7 @@ fn segment_event(c: Corner, v: Vertex, width: u32, primitive: u32) -> Event
 }
 
 fn bitmap_event(h: Handle, v: Vertex, memory: u32) -> Event
-    requires { ⌜ Narrow h × (memory ≤ 2 ^ 20) ⌝ }
+    requires { ⌜ Narrow h × (memory ≤ mostMemory) ⌝ }
     ensures { λ r. ⌜ r ≡ bitmapped (judged h v memory) ⌝ }
 {
     match judge(h, v, memory) {
@@ -320,8 +292,8 @@ impl Machine {
     }
 
     // What a vertex draws. Its handle and cell are looked at only while BITMAPS is begun.
-    fn vertex(mut self, handles: &[u32; 512], memory: u32, v: Vertex) -> Stepped
-        requires { ⌜ memory ≤ 2 ^ 20 ⌝ }
+    fn vertex(mut self, handles: &[u32; SETTINGS], memory: u32, v: Vertex) -> Stepped
+        requires { ⌜ memory ≤ mostMemory ⌝ }
         ensures { λ r. ⌜ r ≡ vertexed self (now (handles .entry)) memory v ⌝ }
     {
         let primitive = self.primitive;
@@ -369,7 +341,7 @@ impl Machine {
     }
 
     // What a command does. Those that are not drawn yet give 13, by the word alone.
-    fn obey(mut self, handles: &mut [u32; 512], word: Word) -> Obeyed
+    fn obey(mut self, handles: &mut [u32; SETTINGS], word: Word) -> Obeyed
         ensures { λ r. ⌜ (r ≡ obeys self (now (handles .entry)) word .obeyed) × (now (handles .exit) ≡ obeys self (now (handles .entry)) word .handles) ⌝ }
     {
         let placing = self.context.placing;
@@ -578,13 +550,13 @@ impl Machine {
             }
             Word::PaletteSource { addr: _ } => Then::Tell(Event::Fault(13)),
             Word::VertexTranslateX { x } => {
-                let shift = units::shift(x);
-                self.context.placing.dx = shift;
+                let translation = units::translate(x);
+                self.context.placing.dx = translation;
                 Then::Tell(Event::Quiet)
             }
             Word::VertexTranslateY { y } => {
-                let shift = units::shift(y);
-                self.context.placing.dy = shift;
+                let translation = units::translate(y);
+                self.context.placing.dy = translation;
                 Then::Tell(Event::Quiet)
             }
             Word::Nop => Then::Tell(Event::Quiet),
@@ -596,8 +568,8 @@ impl Machine {
     }
 
     // A word read and obeyed.
-    pub fn step(self, handles: &mut [u32; 512], memory: u32, bits: u32) -> Stepped
-        requires { ⌜ memory ≤ 2 ^ 20 ⌝ }
+    pub fn step(self, handles: &mut [u32; SETTINGS], memory: u32, bits: u32) -> Stepped
+        requires { ⌜ memory ≤ mostMemory ⌝ }
         ensures { λ r. ⌜ (r ≡ steps self (now (handles .entry)) memory bits .stepped) × (now (handles .exit) ≡ steps self (now (handles .entry)) memory bits .handles) ⌝ }
     {
         match words::read_word(bits) {

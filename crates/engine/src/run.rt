@@ -1,9 +1,8 @@
 // A run from one drawing action to the next.
 ghost use mathlib.Core.Path.{_≡_};
-ghost use Prim.Native.Nat.{_≤_, _^_};
-ghost use lib.ListN.{length};
-ghost use Rattle.engine.specs.Run.{clearOf, drawingOf, actionOf, isKept, found, Advances, atStart, endingOf, run as ran};
+ghost use Rattle.engine.specs.Run.{WithinLimits, clearOf, drawingOf, actionOf, isKept, stopAt, found, Advances, endingOf, runOf};
 use crate::context::Context;
+use crate::handles::SETTINGS;
 use crate::kept::Engine;
 use crate::kept::Kept;
 use crate::machine::Event;
@@ -14,10 +13,16 @@ use action::Action;
 use action::Clear;
 use action::Drawing;
 
-// What a run came to next: a drawing action, or the end with its number and place in document 01's table.
+// What a run stops with: its number in document 01's table, and the place that goes with it.
+pub struct Stop {
+    pub number: u32,
+    pub place: u32,
+}
+
+// What a run came to next: a drawing action, or its end.
 pub enum Find {
     Drew(Action),
-    Over { number: u32, place: u32 },
+    Over(Stop),
 }
 
 // `left` is how many words are still allowed.
@@ -72,16 +77,16 @@ fn act(context: Context, shape: Shape) -> Action
 
 // A run that is over, with its number and place.
 fn over(now: Machine, kept: Kept, left: u32, number: u32, place: u32) -> Advanced
-    ensures { λ r. ⌜ r ≡ found now kept left (Find.Over number place) ⌝ }
+    ensures { λ r. ⌜ r ≡ found now kept left (Find.Over (stopAt number place)) ⌝ }
 {
     let engine = Engine {
         now: now,
         kept: kept,
     };
-    let find = Find::Over {
+    let find = Find::Over(Stop {
         number: number,
         place: place,
-    };
+    });
     Advanced {
         engine: engine,
         left: left,
@@ -116,13 +121,13 @@ fn is_kept(count: usize) -> bool
 // fault. The machine and the kept contexts are held apart, since few words touch the latter.
 pub fn advance(
     from: Engine,
-    handles: &mut [u32; 512],
+    handles: &mut [u32; SETTINGS],
     list: &[u8],
     memory: u32,
     allowed: u32,
     halt: bool,
 ) -> Advanced
-    requires { ⌜ (length (now list) ≤ 8192) × (memory ≤ 2 ^ 20) ⌝ }
+    requires { ⌜ WithinLimits (now list) memory ⌝ }
     ensures { λ r. ⌜ Advances (now (list .entry)) memory allowed halt (record { engine = from; handles = now (handles .entry) }) r (now (handles .exit)) ⌝ }
 {
     let mut now = from.now;
@@ -177,32 +182,32 @@ pub fn advance(
     over(now, kept, left, 19, at)
 }
 
-// How a run ends: document 01's number, place and count.
+// How a run ends, and how many words it fetched.
 pub struct Ending {
-    pub number: u32,
-    pub place: u32,
+    pub stop: Stop,
     pub count: u32,
 }
 
 // Runs a list from its start to its end or fault.
 pub fn finish(list: &[u8], memory: u32, limit: u32) -> Ending
-    requires { ⌜ (length (now list) ≤ 8192) × (memory ≤ 2 ^ 20) ⌝ }
-    ensures { λ r. ⌜ r ≡ endingOf (ran (now (list .entry)) memory limit atStart) ⌝ }
+    requires { ⌜ WithinLimits (now list) memory ⌝ }
+    ensures { λ r. ⌜ r ≡ endingOf (runOf (now (list .entry)) memory limit) ⌝ }
 {
-    let mut handles = [0; 512];
+    let mut handles = [0; SETTINGS];
     let advanced = advance(Engine::start(), &mut handles, list, memory, limit, false);
     let left = advanced.left;
     let find = advanced.find;
     match find {
         // Actions are not asked for, so that none is found.
         Find::Drew(_) => Ending {
-            number: 0,
-            place: 0,
+            stop: Stop {
+                number: 0,
+                place: 0,
+            },
             count: 0,
         },
-        Find::Over { number, place } => Ending {
-            number: number,
-            place: place,
+        Find::Over(stop) => Ending {
+            stop: stop,
             count: limit - left,
         },
     }

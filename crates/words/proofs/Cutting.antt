@@ -7,27 +7,27 @@ use native.Mathlib.Omega.{arith}
 use lib.ListN.{length, getD}
 use lib.Pow.{pow-mono}
 use borrow.Author.Tests.{leb-true}
+use Rattle.truth.proofs.Bools.{both-true}
 use Rattle.words.specs.declared.field.Field.{Field}
 use Rattle.words.specs.declared.field.Field.the-variants.{Signed}
 use Rattle.words.specs.declared.field.Layout.{Layout}
 use Rattle.words.specs.declared.telling.Spelt.the-variants as t
-use Rattle.words.specs.Fields.{both, total, above, values, allMean}
-use Rattle.words.specs.Layout.{layoutOf, allSigns, Cuttable, Inside, Digit}
+use Rattle.words.specs.Fields.{total, above, values, allMean}
+use Rattle.words.specs.Layout.{layoutOf, signs, allSigns, Cuttable, Inside, Digit}
 use Rattle.words.specs.Table.{row, Found, none, some, rowOf}
 use Rattle.words.specs.Words.{command, spelt, decoded, spellAs, spellWord}
 use Rattle.words.proofs.Digits.{halves, above-div}
 use Rattle.words.proofs.Packing.{padded, total-padded, OfLayout, of-laid}
 use Rattle.words.proofs.Rows.{spelling-by}
 use Rattle.words.proofs.Table.{Sound, sound}
-use Rattle.words.proofs.Tests.{both-left, both-right}
 
 -- ONE FIELD of several.
 
 pub first : {f : Field} {fs : List Field} → Cuttable (f ∷ fs) → Inside f (total fs)
-first h = record { enough = h .narrow; signed = both-left _ _ (h .signed) }
+first {f} h = record { enough = h .narrow; signed = both-true (signs f) _ (h .signed) .0 }
 
 pub rest : {f : Field} {fs : List Field} → Cuttable (f ∷ fs) → Cuttable fs
-rest h = record { narrow = omega (arith, h .narrow); signed = both-right _ _ (h .signed) }
+rest {f} h = record { narrow = omega (arith, h .narrow); signed = both-true (signs f) _ (h .signed) .1 }
 
 pub signed-digit : {k n : ℕ} → Digit (Signed k) n → (2 ^ k / 2 ≤ 2 ^ 30) × (n < 2 ^ k / 2 + 2 ^ k / 2)
 signed-digit {k} h = (omega (arith, pow-mono (h .narrow)), omega (arith, h .below, halves k (h .narrow) (leb-true _ _ (h .signed))))
@@ -45,13 +45,11 @@ values-padded (f ∷ fs) k w zero = rw (above-padded fs k w)
 values-padded (f ∷ fs) k w (suc i) = values-padded fs k w i
 
 means-padded : (fs : List Field) (k w : ℕ) → allMean (padded fs k) (values (padded fs k) w) ≡ allMean fs (values fs w)
-unfolding both
 means-padded [] zero w = refl
 means-padded [] (suc k) w = means-padded [] k w
 means-padded (f ∷ fs) k w = rw (above-padded fs k w, means-padded fs k w)
 
 signs-padded : (fs : List Field) (k : ℕ) → allSigns (padded fs k) ≡ allSigns fs
-unfolding both
 signs-padded [] zero = refl
 signs-padded [] (suc k) = signs-padded [] k
 signs-padded (f ∷ fs) k = rw (signs-padded fs k)

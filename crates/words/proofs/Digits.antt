@@ -2,7 +2,7 @@
 -- Assumes nothing.
 use Prim.Native.Nat.{ℕ, suc, _+_, _*_, _-_, _/_, _%_, _^_, _<_, _≤_}
 use mathlib.Core.Path.{_≡_, refl, sym, ap, _∙_}
-use mathlib.Core.Bool.{Bool, true, false, cond}
+use mathlib.Core.Bool.{Bool, true, false, cond, _&&_}
 use mathlib.Core.List.{List, [], _∷_}
 use mathlib.Core.Logic.{⊎-elim}
 use native.Mathlib.Nat.{mod-lt, mod-eq-of-lt, mul-le-mul-right, pow-suc}
@@ -10,11 +10,11 @@ use native.Mathlib.Omega.{arith}
 use lib.Dec.{ltb, leb}
 use lib.Pow.{pow-pos, pow-add, pow-mono, mod-pow-add, high, low, high-ones}
 use borrow.Author.Tests.{ltb-true, ltb-false, lt-ltb, le-ltb, le-leb, leb-true}
+use Rattle.truth.proofs.Bools.{both-made, both-true, either-true}
 use Rattle.words.specs.declared.field.Field.{Field}
 use Rattle.words.specs.declared.field.Field.the-variants.{Bits, Only, Signed}
-use Rattle.words.specs.Fields.{both, either, extended, holdsSigned, width, value, means, holds, total, above, values, allMean, fit, join}
+use Rattle.words.specs.Fields.{meant, extended, holdsSigned, width, value, means, holds, total, above, values, allMean, fit, join}
 use Rattle.words.specs.Layout.{signs, allSigns}
-use Rattle.words.proofs.Tests.{both-left, both-right, both-of, either-cases}
 
 -- a digit below A before a number below B
 below : (A B a b : ℕ) → a < A → b < B → a * B + b < A * B
@@ -63,7 +63,7 @@ module _ (k : ℕ) (wide : k ≤ 30) (some : 1 ≤ k) where
       go false = rw halves (upper n h)
 
   extended-held : (n : ℕ) → n < 2 ^ k → holdsSigned (2 ^ k / 2) (extended (2 ^ k / 2) n) ≡ true
-  unfolding holdsSigned both either
+  unfolding holdsSigned
   extended-held n h = go (ltb n (2 ^ k / 2)) refl
     where
       go : (t : Bool) → ltb n (2 ^ k / 2) ≡ t → holdsSigned (2 ^ k / 2) (cond t n (2 ^ 32 - (2 ^ k / 2 + 2 ^ k / 2) + n)) ≡ true
@@ -79,7 +79,7 @@ module _ (k : ℕ) (wide : k ≤ 30) (some : 1 ≤ k) where
 
   held-extended : (n : ℕ) → holdsSigned (2 ^ k / 2) n ≡ true → extended (2 ^ k / 2) (n % 2 ^ k) ≡ n
   unfolding holdsSigned
-  held-extended n ok = ⊎-elim below-half above-half (either-cases _ _ ok)
+  held-extended n ok = ⊎-elim below-half above-half (either-true _ _ ok)
     where
       below-half : ltb n (2 ^ k / 2) ≡ true → extended (2 ^ k / 2) (n % 2 ^ k) ≡ n
       below-half e =
@@ -87,10 +87,10 @@ module _ (k : ℕ) (wide : k ≤ 30) (some : 1 ≤ k) where
           let m : n % 2 ^ k ≡ n = mod-eq-of-lt (omega (arith, halves)) in
           rw (m, e)
 
-      above-half : both (leb (2 ^ 32 - 2 ^ k / 2) n) (ltb n (2 ^ 32)) ≡ true → extended (2 ^ k / 2) (n % 2 ^ k) ≡ n
+      above-half : leb (2 ^ 32 - 2 ^ k / 2) n && ltb n (2 ^ 32) ≡ true → extended (2 ^ k / 2) (n % 2 ^ k) ≡ n
       above-half e =
-          let l : 2 ^ 32 - 2 ^ k / 2 ≤ n = leb-true _ _ (both-left _ _ e) in
-          let u : n < 2 ^ 32 = ltb-true _ _ (both-right _ _ e) in
+          let l : 2 ^ 32 - 2 ^ k / 2 ≤ n = leb-true _ _ (both-true (leb (2 ^ 32 - 2 ^ k / 2) n) _ e .0) in
+          let u : n < 2 ^ 32 = ltb-true _ _ (both-true (leb (2 ^ 32 - 2 ^ k / 2) n) _ e .1) in
           let q : 2 ^ 32 - 2 ^ k + (n - (2 ^ 32 - 2 ^ k)) ≡ n = omega (arith, small, halves) in
           let m : n % 2 ^ k ≡ n - (2 ^ 32 - 2 ^ k) =
           ap (λ (x : ℕ). x % 2 ^ k) (sym q) ∙ upper (n - (2 ^ 32 - 2 ^ k)) (omega (arith, small, halves)) in
@@ -102,7 +102,7 @@ value-bits (Only k m) n w s h = mod-eq-of-lt h
 value-bits (Signed k) n w s h = extended-bits k w (leb-true _ _ s) n h
 
 value-held : (f : Field) (n : ℕ) → width f ≤ 30 → signs f ≡ true → n < 2 ^ width f → means f (value f n) ≡ true → holds f (value f n) ≡ true
-unfolding holds both
+unfolding holds
 value-held (Bits k) n w s h m = lt-ltb _ _ h
 value-held (Only k t) n w s h m = rw m (lt-ltb _ _ h)
 value-held (Signed k) n w s h m = extended-held k w (leb-true _ _ s) n h
@@ -110,13 +110,13 @@ value-held (Signed k) n w s h m = extended-held k w (leb-true _ _ s) n h
 held-value : (f : Field) (n : ℕ) → width f ≤ 30 → signs f ≡ true → holds f n ≡ true → value f (n % 2 ^ width f) ≡ n
 unfolding holds
 held-value (Bits k) n w s h = mod-eq-of-lt (ltb-true _ _ h)
-held-value (Only k m) n w s h = mod-eq-of-lt (ltb-true _ _ (both-right _ _ h))
+held-value (Only k m) n w s h = mod-eq-of-lt (ltb-true _ _ (both-true (meant m n) _ h .1))
 held-value (Signed k) n w s h = held-extended k w (leb-true _ _ s) n h
 
 held-means : (f : Field) (n : ℕ) → holds f n ≡ true → means f n ≡ true
 unfolding holds
 held-means (Bits k) n h = refl
-held-means (Only k m) n h = both-left _ _ h
+held-means (Only k m) n h = both-true (meant m n) _ h .0
 held-means (Signed k) n h = refl
 
 -- ALL FIELDS.
@@ -146,8 +146,8 @@ values-join (g ∷ fs) (n ∷ ns) h w s f =
     rw (
       regroup h (width g) (total fs) (n % 2 ^ width g) (join fs ns),
       digit fs h (width g) (n % 2 ^ width g) (join fs ns) (mod-lt n (pow-pos (width g))) (join-lt fs ns),
-      held-value g n (omega arith) (both-left _ _ s) (both-left _ _ f),
-      values-join fs ns (h * 2 ^ width g + n % 2 ^ width g) (omega arith) (both-right _ _ s) (both-right _ _ f),
+      held-value g n (omega arith) (both-true (signs g) _ s .0) (both-true (holds g n) _ f .0),
+      values-join fs ns (h * 2 ^ width g + n % 2 ^ width g) (omega arith) (both-true (signs g) _ s .1) (both-true (holds g n) _ f .1),
     )
 
 -- numbers that are read are laid as they were
@@ -155,8 +155,8 @@ pub join-values : (fs : List Field) (w : ℕ) → total fs ≤ 30 → allSigns f
 join-values [] w l s = omega arith
 join-values (g ∷ fs) w l s =
     rw (
-      value-bits g (above fs w % 2 ^ width g) (omega arith) (both-left _ _ s) (mod-lt _ (pow-pos (width g))),
-      join-values fs w (omega arith) (both-right _ _ s),
+      value-bits g (above fs w % 2 ^ width g) (omega arith) (both-true (signs g) _ s .0) (mod-lt _ (pow-pos (width g))),
+      join-values fs w (omega arith) (both-true (signs g) _ s .1),
       above-div fs w,
       ← mod-pow-add w (width g) (total fs),
     )
@@ -177,12 +177,13 @@ values-low (g ∷ fs) w h =
 pub fit-values : (fs : List Field) (w : ℕ) → total fs ≤ 30 → allSigns fs ≡ true → allMean fs (values fs w) ≡ true → fit fs (values fs w) ≡ true
 fit-values [] w l s m = refl
 fit-values (g ∷ fs) w l s m =
-    both-of
-    (value-held g (above fs w % 2 ^ width g) (omega arith) (both-left _ _ s) (mod-lt _ (pow-pos (width g))) (both-left _ _ m))
-    (fit-values fs w (omega arith) (both-right _ _ s) (both-right _ _ m))
+    let t = both-true (means g (value g (above fs w % 2 ^ width g))) _ m in
+    both-made
+    (value-held g (above fs w % 2 ^ width g) (omega arith) (both-true (signs g) _ s .0) (mod-lt _ (pow-pos (width g))) (t .0))
+    (fit-values fs w (omega arith) (both-true (signs g) _ s .1) (t .1))
 
 -- numbers that fit have a meaning
 pub fit-means : (fs : List Field) (ns : List ℕ) → fit fs ns ≡ true → allMean fs (front fs ns) ≡ true
 fit-means [] ns f = refl
 fit-means (g ∷ fs) [] f = refl
-fit-means (g ∷ fs) (n ∷ ns) f = both-of (held-means g n (both-left _ _ f)) (fit-means fs ns (both-right _ _ f))
+fit-means (g ∷ fs) (n ∷ ns) f = both-made (held-means g n (both-true (holds g n) _ f .0)) (fit-means fs ns (both-true (holds g n) _ f .1))

@@ -5,4 +5,3 @@ pub mod Round
 pub mod Rows
 pub mod Signs
 pub mod Table
-pub mod Tests

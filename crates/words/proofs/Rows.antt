@@ -8,16 +8,16 @@ use native.Mathlib.Omega.{arith}
 use lib.ListN.{length, getD}
 use lib.Pow.{pow-add}
 use borrow.Author.Tests.{ltb-true}
+use Rattle.truth.proofs.Bools.{both-true}
 use Rattle.words.specs.declared.field.Field.{Field}
 use Rattle.words.specs.declared.field.Field.the-variants.{Bits, Only, Signed}
 use Rattle.words.specs.declared.spelling.Spelling.{Spelling}
 use Rattle.words.specs.declared.writing.Written.the-variants as o
-use Rattle.words.specs.Fields.{both, holds, int, total, values, fit, join}
+use Rattle.words.specs.Fields.{holds, int, total, values, fit, join}
 use Rattle.words.specs.Table.{Make, apply, spelling, numbers}
 use Rattle.words.specs.Words.{command, written, encoded}
 use Rattle.words.proofs.Digits.{front, join-lt, values-join}
 use Rattle.words.proofs.Table.{Proper, command-of}
-use Rattle.words.proofs.Tests.{both-left, both-right}
 
 -- A SPELLING has five numbers, and those past a command's fields are 0.
 
@@ -28,7 +28,7 @@ pub record Five (fs : List Field) (ns : List ℕ) (five : List ℕ) : Type 0 whe
   pub first : front fs five ≡ ns
 
 pub five-of : (fs : List Field) (n w : ℕ) → length fs ≤ 5 → Five fs (values fs w) (numbers (spelling n (values fs w)))
-unfolding holds both
+unfolding holds
 five-of [] n w l = record { fits = refl; joins = refl; first = refl }
 five-of (a ∷ []) n w l = record { fits = refl; joins = refl; first = refl }
 five-of (a ∷ b ∷ []) n w l = record { fits = refl; joins = refl; first = refl }
@@ -49,14 +49,14 @@ apply-front (Signed k ∷ fs) make (n ∷ ns) = apply-front fs (make (int n)) ns
 rest-zero : (ns : List ℕ) (i : ℕ) → fit [] ns ≡ true → getD ns i 0 ≡ 0
 unfolding holds
 rest-zero [] i h = refl
-rest-zero (n ∷ ns) zero h = let l : n < 1 = ltb-true _ _ (both-left _ _ h) in omega arith
-rest-zero (n ∷ ns) (suc i) h = rest-zero ns i (both-right _ _ h)
+rest-zero (n ∷ ns) zero h = let l : n < 1 = ltb-true _ _ (both-true (holds (Bits 0) n) _ h .0) in omega arith
+rest-zero (n ∷ ns) (suc i) h = rest-zero ns i (both-true (holds (Bits 0) n) _ h .1)
 
 front-at : (fs : List Field) (ns : List ℕ) (i : ℕ) → fit fs ns ≡ true → getD (front fs ns) i 0 ≡ getD ns i 0
 front-at [] ns i h = sym (rest-zero ns i h)
 front-at (f ∷ fs) [] i h = refl
 front-at (f ∷ fs) (n ∷ ns) zero h = refl
-front-at (f ∷ fs) (n ∷ ns) (suc i) h = front-at fs ns i (both-right _ _ h)
+front-at (f ∷ fs) (n ∷ ns) (suc i) h = front-at fs ns i (both-true (holds f n) _ h .1)
 
 pub spelling-by : (n : ℕ) (ns ms : List ℕ) → ((i : ℕ) → getD ns i 0 ≡ getD ms i 0) → spelling n ns ≡ spelling n ms
 spelling-by n ns ms h = λ i. record { 0 = n; 1 = h 0 i; 2 = h 1 i; 3 = h 2 i; 4 = h 3 i; 5 = h 4 i }

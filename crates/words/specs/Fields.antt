@@ -3,7 +3,7 @@
 -- high bits down and with no gap. Document 01, row 12: which numbers have no meaning. A list of numbers here has a signed field as
 -- include/jokulvisp.h passes it, as 32 bits in two's complement.
 use Prim.Native.Nat.{ℕ, suc, _+_, _-_, _*_, _/_, _%_, _^_}
-use mathlib.Core.Bool.{Bool, true, false, cond}
+use mathlib.Core.Bool.{Bool, true, false, cond, _&&_, _||_}
 use mathlib.Core.List.{List, [], _∷_}
 use lib.Dec.{ltb, leb}
 use lib.IntN.{ℤ, pos, negsuc}
@@ -12,22 +12,14 @@ use Rattle.words.specs.declared.field.Meaning.the-variants.{Function, St
 use Rattle.words.specs.declared.field.Field.{Field}
 use Rattle.words.specs.declared.field.Field.the-variants.{Bits, Only, Signed}
 
-unfoldable pub both : Bool → Bool → Bool
-both true b = b
-both false b = false
-
-unfoldable pub either : Bool → Bool → Bool
-either true b = true
-either false b = b
-
 -- ROW 12. A test function is at most 7, a stencil action and a blend factor at most 5, a primitive 1 to 9, a format one of
 -- 0-7, 9, 10, 11, 14-17, frac at most 4, a scissor's width or height at most 2,048.
 abbrev pub meant : Meaning → ℕ → Bool
 meant Function n = leb n 7
 meant StencilAction n = leb n 5
 meant BlendFactor n = leb n 5
-meant Primitive n = both (leb 1 n) (leb n 9)
-meant Format n = either (leb n 7) (either (both (leb 9 n) (leb n 11)) (both (leb 14 n) (leb n 17)))
+meant Primitive n = leb 1 n && leb n 9
+meant Format n = leb n 7 || leb 9 n && leb n 11 || leb 14 n && leb n 17
 meant Frac n = leb n 4
 meant ScissorSide n = leb n 2048
 
@@ -42,7 +34,7 @@ abbrev pub extended : ℕ → ℕ → ℕ
 extended half n = cond (ltb n half) n (2 ^ 32 - (half + half) + n)
 
 unfoldable pub holdsSigned : ℕ → ℕ → Bool
-holdsSigned half n = either (ltb n half) (both (leb (2 ^ 32 - half) n) (ltb n (2 ^ 32)))
+holdsSigned half n = ltb n half || leb (2 ^ 32 - half) n && ltb n (2 ^ 32)
 
 -- ONE FIELD.
 
@@ -65,7 +57,7 @@ means (Signed k) n = true
 -- the field's bits hold the number, and it has a meaning
 unfoldable pub holds : Field → ℕ → Bool
 holds (Bits k) n = ltb n (2 ^ k)
-holds (Only k m) n = both (meant m n) (ltb n (2 ^ k))
+holds (Only k m) n = meant m n && ltb n (2 ^ k)
 holds (Signed k) n = holdsSigned (2 ^ k / 2) n
 
 -- ALL FIELDS OF A COMMAND, from the high bits down.
@@ -87,14 +79,14 @@ values (f ∷ fs) w = value f (above fs w % 2 ^ width f) ∷ values fs w
 abbrev pub allMean : List Field → List ℕ → Bool
 allMean [] ns = true
 allMean (f ∷ fs) [] = true
-allMean (f ∷ fs) (n ∷ ns) = both (means f n) (allMean fs ns)
+allMean (f ∷ fs) (n ∷ ns) = means f n && allMean fs ns
 
 -- the numbers fit the fields; past the last field there are no bits, and 0 alone fits
 abbrev pub fit : List Field → List ℕ → Bool
 fit [] [] = true
-fit [] (n ∷ ns) = both (holds (Bits 0) n) (fit [] ns)
+fit [] (n ∷ ns) = holds (Bits 0) n && fit [] ns
 fit (f ∷ fs) [] = false
-fit (f ∷ fs) (n ∷ ns) = both (holds f n) (fit fs ns)
+fit (f ∷ fs) (n ∷ ns) = holds f n && fit fs ns
 
 -- the numbers laid into the fields' bits
 abbrev pub join : List Field → List ℕ → ℕ

@@ -1,6 +1,6 @@
 -- How the code keeps a row of the table, packs a word and cuts it apart. The meaning of a word does not rest on this page.
 use Prim.Native.Nat.{ℕ, _+_, _*_, _/_, _%_, _^_, _≤_, _<_}
-use mathlib.Core.Bool.{Bool, true}
+use mathlib.Core.Bool.{Bool, true, _&&_}
 use mathlib.Core.List.{List, [], _∷_}
 use mathlib.Core.Path.{_≡_}
 use lib.Dec.{leb}
@@ -10,7 +10,7 @@ use Rattle.words.specs.declared.field.Layout.{Layout}
 use Rattle.words.specs.declared.field.Layout.the-variants.{NoCommand, None, One, Two, Three, Four, Five}
 use Rattle.words.specs.declared.telling.Piece.{Piece}
 use Rattle.words.specs.declared.writing.Packed.{Packed}
-use Rattle.words.specs.Fields.{both, width, value, total}
+use Rattle.words.specs.Fields.{width, value, total}
 use Rattle.words.specs.Table.{row, Found, none, some}
 
 -- a command's fields as the code keeps them; no command has more than five
@@ -53,7 +53,7 @@ signs (Signed k) = leb 1 k
 
 abbrev pub allSigns : List Field → Bool
 allSigns [] = true
-allSigns (f ∷ fs) = both (signs f) (allSigns fs)
+allSigns (f ∷ fs) = signs f && allSigns fs
 
 -- fields that can be cut out of a word
 pub record Cuttable (fs : List Field) : Type 0 where

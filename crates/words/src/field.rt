@@ -1,7 +1,7 @@
 // The fields of the commands: how wide each is, and which of its numbers have a meaning.
 ghost use mathlib.Core.Path.{_≡_};
 ghost use Prim.Native.Nat.{_^_, _<_};
-ghost use Rattle.words.specs.Fields.{both, either, meant, means, width, holdsSigned, holds};
+ghost use Rattle.words.specs.Fields.{meant, means, width, holdsSigned, holds};
 ghost use Rattle.words.specs.Table.{rowOf};
 ghost use Rattle.words.specs.Layout.{layoutOf};
 
@@ -123,37 +123,16 @@ pub fn fields_of(command: u32) -> Layout
     }
 }
 
-pub fn both(a: bool, b: bool) -> bool
-    ensures { λ r. ⌜ r ≡ both a b ⌝ }
-{
-    if a {
-        return b;
-    }
-    false
-}
-
-fn either(a: bool, b: bool) -> bool
-    ensures { λ r. ⌜ r ≡ either a b ⌝ }
-{
-    if a {
-        return true;
-    }
-    b
-}
-
 fn is_primitive(n: u32) -> bool
     ensures { λ r. ⌜ r ≡ meant Meaning.Primitive n ⌝ }
 {
-    both(1 <= n, n <= 9)
+    (1 <= n) & (n <= 9)
 }
 
 fn is_format(n: u32) -> bool
     ensures { λ r. ⌜ r ≡ meant Meaning.Format n ⌝ }
 {
-    either(
-        n <= 7,
-        either(both(9 <= n, n <= 11), both(14 <= n, n <= 17)),
-    )
+    (n <= 7) | (9 <= n) & (n <= 11) | (14 <= n) & (n <= 17)
 }
 
 // Whether the number has a meaning there: row 12 of document 01's table.
@@ -201,7 +180,7 @@ pub fn width_of(field: Field) -> u32
 fn is_held_signed(half: u32, n: u32) -> bool
     ensures { λ r. ⌜ r ≡ holdsSigned half n ⌝ }
 {
-    either(n < half, 0xFFFFFFFF - half < n)
+    (n < half) | (0xFFFFFFFF - half < n)
 }
 
 // Whether the field's bits hold the number, and it has a meaning there.
@@ -211,7 +190,7 @@ pub fn is_held(field: Field, n: u32) -> bool
 {
     match field {
         Field::Bits(k) => n < power(k),
-        Field::Only(k, meaning) => both(is_meant(meaning, n), n < power(k)),
+        Field::Only(k, meaning) => is_meant(meaning, n) & (n < power(k)),
         Field::Signed(k) => is_held_signed(power(k) / 2, n),
     }
 }

@@ -5,7 +5,6 @@ ghost use Rattle.words.specs.Fields.{int, extended};
 ghost use Rattle.words.specs.Table.{rowOf};
 ghost use Rattle.words.specs.Words.{checked, readAs, readWord};
 use crate::field::Meaning;
-use crate::field::both;
 use crate::field::is_meant;
 use crate::word::Word;
 
@@ -70,10 +69,7 @@ fn read_blend_func(w: u32) -> Read
     let src = (w >> 3) % 8;
     let dst = w % 8;
     checked(
-        both(
-            is_meant(Meaning::BlendFactor, src),
-            is_meant(Meaning::BlendFactor, dst),
-        ),
+        is_meant(Meaning::BlendFactor, src) & is_meant(Meaning::BlendFactor, dst),
         Word::BlendFunc { src: src, dst: dst },
     )
 }
@@ -84,10 +80,7 @@ fn read_stencil_op(w: u32) -> Read
     let sfail = (w >> 3) % 8;
     let spass = w % 8;
     checked(
-        both(
-            is_meant(Meaning::StencilAction, sfail),
-            is_meant(Meaning::StencilAction, spass),
-        ),
+        is_meant(Meaning::StencilAction, sfail) & is_meant(Meaning::StencilAction, spass),
         Word::StencilOp {
             sfail: sfail,
             spass: spass,
@@ -101,10 +94,7 @@ fn read_scissor_size(w: u32) -> Read
     let width = (w >> 12) % 0x1000;
     let height = w % 0x1000;
     checked(
-        both(
-            is_meant(Meaning::ScissorSide, width),
-            is_meant(Meaning::ScissorSide, height),
-        ),
+        is_meant(Meaning::ScissorSide, width) & is_meant(Meaning::ScissorSide, height),
         Word::ScissorSize {
             width: width,
             height: height,

@@ -8,7 +8,6 @@ ghost use Rattle.words.specs.Table.{numbers, spelling};
 ghost use Rattle.words.specs.Words.{command, decoded, spellWord};
 use crate::field::Field;
 use crate::field::Layout;
-use crate::field::both;
 use crate::field::fields_of;
 use crate::field::is_meaningful;
 use crate::field::power;
@@ -99,16 +98,9 @@ fn cut_all(number: u32, w: u32, a: Field, b: Field, c: Field, d: Field, e: Field
 fn are_meaningful(s: Spelling, a: Field, b: Field, c: Field, d: Field, e: Field) -> bool
     ensures { λ r. ⌜ r ≡ allMean (five a b c d e) (numbers s) ⌝ }
 {
-    both(
-        is_meaningful(a, s.1),
-        both(
-            is_meaningful(b, s.2),
-            both(
-                is_meaningful(c, s.3),
-                both(is_meaningful(d, s.4), is_meaningful(e, s.5)),
-            ),
-        ),
-    )
+    is_meaningful(a, s.1)
+        & (is_meaningful(b, s.2)
+            & (is_meaningful(c, s.3) & (is_meaningful(d, s.4) & is_meaningful(e, s.5))))
 }
 
 fn spell_fields(number: u32, w: u32, a: Field, b: Field, c: Field, d: Field, e: Field) -> Spelt

@@ -7,7 +7,6 @@ ghost use Rattle.words.specs.Layout.{Laid, Room, five};
 ghost use Rattle.words.specs.Words.{encoded, writeSpelling};
 use crate::field::Field;
 use crate::field::Layout;
-use crate::field::both;
 use crate::field::fields_of;
 use crate::field::is_held;
 use crate::field::power;
@@ -60,13 +59,7 @@ fn is_fit(s: Spelling, a: Field, b: Field, c: Field, d: Field, e: Field) -> bool
     requires { ⌜ total (five a b c d e) ≤ 30 ⌝ }
     ensures { λ r. ⌜ r ≡ fit (five a b c d e) (numbers s) ⌝ }
 {
-    both(
-        is_held(a, s.1),
-        both(
-            is_held(b, s.2),
-            both(is_held(c, s.3), both(is_held(d, s.4), is_held(e, s.5))),
-        ),
-    )
+    is_held(a, s.1) & (is_held(b, s.2) & (is_held(c, s.3) & (is_held(d, s.4) & is_held(e, s.5))))
 }
 
 fn encode(s: Spelling, a: Field, b: Field, c: Field, d: Field, e: Field) -> Written

@@ -78,24 +78,24 @@ floor-requires-2 : tie.Need-floor-requires-2
 floor-requires-2 c κs = search needs
 
 cover-requires : tie.Need-cover-requires
-cover-requires c κs = let s = c .before .before .before .before .before .before .before .before .before .before .before .before .before .before .before .before .before .before .before .before .before .before .before .before .before in ((omega arith, omega arith), (omega arith, omega arith))
+cover-requires c κs = let s = c .before .before .before .before .before .before .before .before .before .before .before .before .before .before .before .before .before .before .before .before .before .before .before .before .before .before .before in ((omega arith, omega arith), (omega arith, omega arith))
 
-cast-t19 : tie.Need-cast-t19
-cast-t19 c = let s = c .before .before .before .before .before .before .before .before .before .before .before .before .before .before .before .before .before .before .before .before .before .before .before .before .before .before in omega arith
+cast-t21 : tie.Need-cast-t21
+cast-t21 c = let s = c .before .before .before .before .before .before .before .before .before .before .before .before .before .before .before .before .before .before .before .before .before .before .before .before .before .before .before .before in omega (arith, c .before .before .before .before .before .before .before .before .before .if9 .left, s .pre .1)
 
 of-requires : tie.Need-of-requires
 of-requires c κs = search needs
 
-cast-t21 : tie.Need-cast-t21
-cast-t21 c = let p = c .before .before .before .before .before .before .before .before .before .before .before .before .before .before .before .before in let s = p .before .before .before .before .before .before .before .before .before .before .before .before in omega arith
+cast-t23 : tie.Need-cast-t23
+cast-t23 c = let p = c .before .before .before .before .before .before .before .before .before .before .before .before .before .before .before .before .before .before in let s = p .before .before .before .before .before .before .before .before .before .before .before .before in omega arith
 
-cast-t22 : tie.Need-cast-t22
-cast-t22 c = let p = c .before .before .before .before .before .before .before .before .before .before .before .before .before .before .before in let s = p .before .before .before .before .before .before .before .before .before .before .before .before .before .before in omega arith
+cast-t24 : tie.Need-cast-t24
+cast-t24 c = let p = c .before .before .before .before .before .before .before .before .before .before .before .before .before .before .before .before .before in let s = p .before .before .before .before .before .before .before .before .before .before .before .before .before .before in omega arith
 
 returns-12 : tie.Need-returns-12
 unfolding bitmapOf
 returns-12 c =
-    let p = c .before .before .before .before .before .before .before .before in
+    let p = c .before .before .before .before .before .before .before .before .before .before in
     let q = p .before .before .before .before .before .before .before .before .before .before .before in
     let s = q .before .before .before .before .before .before .before .before .before .before in
     let d : Drawn (s .args .h) (s .args .v .cell) (s .args .memory) =
@@ -137,8 +137,8 @@ judge-spec =
     floor-requires
     floor-requires-2
     cover-requires
-    cast-t19
-    of-requires
     cast-t21
-    cast-t22
+    of-requires
+    cast-t23
+    cast-t24
     returns-12)

@@ -1,24 +1,11 @@
-use borrow.Author.Tests.{ne-eqb}
+use mathlib.Core.Path.{refl}
 use Rattle.engine.specs.Machine.{drawnFormat}
-use Rattle.words.specs.Fields.{either}
 use Rattle.engine.proofs.machine.is_drawn_format.Statement.{statement}
 use Rattle.engine.proofs.machine.is_drawn_format.Tie as tie
 
 returns : tie.Need-returns
-unfolding drawnFormat either
-returns c = rw (c .match .keys1)
-
-returns-2 : tie.Need-returns-2
-unfolding drawnFormat either
-returns-2 c = rw (c .match .keys2)
-
-returns-3 : tie.Need-returns-3
-unfolding drawnFormat either
-returns-3 c = rw (c .match .keys3)
-
-returns-4 : tie.Need-returns-4
-unfolding drawnFormat either
-returns-4 c = rw (ne-eqb _ _ (c .match .rest .0 .0 .1), ne-eqb _ _ (c .match .rest .0 .1), ne-eqb _ _ (c .match .rest .1))
+unfolding drawnFormat
+returns c = refl
 
 pub is-drawn-format-spec : {M : Type 1} → statement M
-is-drawn-format-spec = tie.close (tie.spec returns returns-2 returns-3 returns-4)
+is-drawn-format-spec = tie.close (tie.spec returns)

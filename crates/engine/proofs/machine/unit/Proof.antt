@@ -2,7 +2,7 @@ use mathlib.Core.Path.{_≡_, refl}
 use Prim.Native.Nat.{_-_}
 use native.Mathlib.Omega.{arith}
 use borrow.Author.Needs.{needs}
-use Rattle.action.proofs.Naming.{past}
+use Rattle.truth.proofs.Arms.{past}
 use Rattle.engine.proofs.machine.unit.Statement.{statement}
 use Rattle.engine.proofs.machine.unit.Tie as tie
 

@@ -8,7 +8,7 @@ use borrow.Author.Needs.{needs}
 use Rattle.engine.specs.Changes.{withContext}
 use Rattle.engine.specs.Kept.{newest, dropped, pushed}
 use Rattle.engine.specs.declared.run.Find.the-variants as f
-use Rattle.engine.specs.Run.{State, Ran, Spent, placeOf, more, then, heard, run}
+use Rattle.engine.specs.Run.{State, Ran, Spent, placeOf, stopAt, more, then, heard, run}
 use Rattle.engine.proofs.Four.{long}
 use Rattle.engine.proofs.Keeping.{some-kept, four-kept, newest-there, newest-none, restored}
 use Rattle.engine.proofs.Turns.{past, on-quiet, on-save, on-restore, on-draw, drew as told, ended, faulted}
@@ -18,7 +18,7 @@ use Rattle.engine.proofs.run.advance.Tie as tie
 -- The limit is used up: 19, wherever the next word lies.
 spent :
     (list : List ℕ) (memory : ℕ) (x : State) (allowed left : ℕ) → left ≡ 0 → (rest : Ran) →
-    more (allowed - left) (run list memory left x) ≡ then (allowed - left) (f.Over 19 (placeOf x)) rest
+    more (allowed - left) (run list memory left x) ≡ then (allowed - left) (f.Over (stopAt 19 (placeOf x))) rest
 unfolding run then
 spent list memory x allowed left z rest =
     let k : allowed - 0 + 0 ≡ allowed - 0 = omega arith in

@@ -18,7 +18,7 @@ enum-known-find c = search needs
 sub-t13 : tie.Need-sub-t13
 sub-t13 c =
     let h = c .before .before .before .advance .ensures in
-    within _ _ _ _ _ _ h _ _ (c .before .find .given .1)
+    within _ _ _ _ _ _ h _ (c .before .find .given .1)
 
 returns : tie.Need-returns
 returns c =
@@ -28,7 +28,7 @@ returns c =
 returns-2 : tie.Need-returns-2
 returns-2 c =
     let h = c .before .before .before .advance .ensures in
-    rw (← (c .before .before .before .before .before .start .ensures)) (ending _ _ _ _ _ _ h _ _ (c .before .find .given .1))
+    rw (← (c .before .before .before .before .before .start .ensures)) (ending _ _ _ _ _ _ h _ (c .before .find .given .1))
 
 pub finish-spec : {M : Type 1} → statement M
 finish-spec =

@@ -1,4 +1,5 @@
-use Rattle.words.proofs.Table.{past, unlisted}
+use Rattle.truth.proofs.Arms.{past}
+use Rattle.words.proofs.Table.{unlisted}
 use Rattle.words.proofs.field.fields_of.Statement.{statement}
 use Rattle.words.proofs.field.fields_of.Tie as tie
 

@@ -18,9 +18,6 @@ is-meant-requires c κs = search needs
 power-requires-2 : tie.Need-power-requires-2
 power-requires-2 c κs = rw (c .before .before .field2 .given .1) at (c .before .before .before .before .pre)
 
-both-requires : tie.Need-both-requires
-both-requires c κs = search needs
-
 enum-known-field-3 : tie.Need-enum-known-field-3
 enum-known-field-3 c = search needs
 
@@ -36,7 +33,7 @@ returns c = rw (c .before .before .field .given .1, c .power .ensures)
 
 returns-2 : tie.Need-returns-2
 unfolding holds
-returns-2 c = rw (c .before .before .before .before .field2 .given .1, c .both .ensures, c .before .before .is-meant .ensures, c .before .power2 .ensures)
+returns-2 c = rw (c .before .before .before .field2 .given .1, c .before .is-meant .ensures, c .power2 .ensures)
 
 returns-3 : tie.Need-returns-3
 unfolding holds
@@ -51,7 +48,6 @@ is-held-spec =
     enum-known-field-2
     is-meant-requires
     power-requires-2
-    both-requires
     enum-known-field-3
     power-requires-3
     is-held-signed-requires

@@ -2,9 +2,9 @@ use Prim.Native.Nat.{_/_, _^_}
 use mir.Facts.{toZ-ofZ}
 use mir.Syntax.{w32}
 use borrow.Author.Needs.{needs, sfits-of}
-use Rattle.words.specs.Fields.{both}
+use Rattle.truth.proofs.Arms.{past}
 use Rattle.words.specs.Words.{readWord, checked}
-use Rattle.words.proofs.Table.{past, no-vertex}
+use Rattle.words.proofs.Table.{no-vertex}
 use Rattle.words.proofs.reading.read_word.Statement.{statement}
 use Rattle.words.proofs.reading.read_word.Tie as tie
 
@@ -22,11 +22,11 @@ unfolding readWord
 returns c = rw (c .before .match .keys1) (c .read-by-byte .ensures)
 
 returns-2 : tie.Need-returns-2
-unfolding checked both readWord
+unfolding checked readWord
 returns-2 c = rw (c .before .before .match .keys2, toZ-ofZ {w = w32} (sfits-of (c .before .sign .ok)), toZ-ofZ {w = w32} (sfits-of (c .sign2 .ok)), c .before .sign .ensures, c .sign2 .ensures)
 
 returns-3 : tie.Need-returns-3
-unfolding checked both readWord
+unfolding checked readWord
 returns-3 c = rw (c .match .keys3)
 
 returns-4 : tie.Need-returns-4

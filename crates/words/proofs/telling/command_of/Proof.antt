@@ -1,5 +1,6 @@
 use Prim.Native.Nat.{_/_, _^_}
-use Rattle.words.proofs.Table.{past, no-vertex}
+use Rattle.truth.proofs.Arms.{past}
+use Rattle.words.proofs.Table.{no-vertex}
 use Rattle.words.proofs.telling.command_of.Statement.{statement}
 use Rattle.words.proofs.telling.command_of.Tie as tie
 

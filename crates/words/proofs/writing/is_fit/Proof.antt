@@ -1,5 +1,5 @@
+use mathlib.Core.Bool.{and-true}
 use borrow.Author.Needs.{needs}
-use Rattle.words.proofs.Tests.{both-true}
 use Rattle.words.proofs.writing.is_fit.Statement.{statement}
 use Rattle.words.proofs.writing.is_fit.Tie as tie
 
@@ -18,31 +18,15 @@ is-held-requires-4 c κs = search needs
 is-held-requires-5 : tie.Need-is-held-requires-5
 is-held-requires-5 c κs = search needs
 
-both-requires : tie.Need-both-requires
-both-requires c κs = search needs
-
-both-requires-2 : tie.Need-both-requires-2
-both-requires-2 c κs = search needs
-
-both-requires-3 : tie.Need-both-requires-3
-both-requires-3 c κs = search needs
-
-both-requires-4 : tie.Need-both-requires-4
-both-requires-4 c κs = search needs
-
 returns : tie.Need-returns
 returns c =
     rw (
-      c .both4 .ensures,
-      c .before .both3 .ensures,
-      c .before .before .both2 .ensures,
-      c .before .before .before .both .ensures,
-      c .before .before .before .before .is-held5 .ensures,
-      c .before .before .before .before .before .is-held4 .ensures,
-      c .before .before .before .before .before .before .is-held3 .ensures,
-      c .before .before .before .before .before .before .before .is-held2 .ensures,
-      c .before .before .before .before .before .before .before .before .is-held .ensures,
-      both-true,
+      c .is-held5 .ensures,
+      c .before .is-held4 .ensures,
+      c .before .before .is-held3 .ensures,
+      c .before .before .before .is-held2 .ensures,
+      c .before .before .before .before .is-held .ensures,
+      and-true,
     )
 
 pub is-fit-spec : {M : Type 1} → statement M
@@ -54,8 +38,4 @@ is-fit-spec =
     is-held-requires-3
     is-held-requires-4
     is-held-requires-5
-    both-requires
-    both-requires-2
-    both-requires-3
-    both-requires-4
     returns)

@@ -10,11 +10,11 @@ of-requires c κs = search needs
 of-requires-2 : tie.Need-of-requires-2
 of-requires-2 c κs = search needs
 
-cast-cover : tie.Need-cast-cover
-cast-cover c = search needs
+cast-t5 : tie.Need-cast-t5
+cast-t5 c = search needs
 
-cast-cover-2 : tie.Need-cast-cover-2
-cast-cover-2 c = search needs
+cast-t7 : tie.Need-cast-t7
+cast-t7 c = search needs
 
 cover-requires : tie.Need-cover-requires
 cover-requires c κs = search needs
@@ -25,4 +25,4 @@ returns c = rw (c .cover .ensures, pixels-at (c .before .before .before .of2 .en
 
 pub scissor-spec : {M : Type 1} → statement M
 scissor-spec =
-    tie.close (tie.spec of-requires of-requires-2 cast-cover cast-cover-2 cover-requires returns)
+    tie.close (tie.spec of-requires of-requires-2 cast-t5 cast-t7 cover-requires returns)

@@ -3,7 +3,7 @@ use lib.ListN.{length}
 use borrow.Author.Needs.{needs}
 use borrow.Author.Tests.{le-ltb}
 use Rattle.engine.specs.Kept.{keptWith}
-use Rattle.action.proofs.Naming.{past}
+use Rattle.truth.proofs.Arms.{past}
 use Rattle.engine.proofs.Four.{long, shift-set}
 use Rattle.engine.proofs.kept.Kept.push.Statement.{statement}
 use Rattle.engine.proofs.kept.Kept.push.Tie as tie

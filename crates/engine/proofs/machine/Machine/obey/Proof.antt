@@ -184,14 +184,14 @@ enum-told-13 c = search needs
 enum-known-word-33 : tie.Need-enum-known-word-33
 enum-known-word-33 c = search needs
 
-shift-requires : tie.Need-shift-requires
-shift-requires c κs = search needs
+translate-requires : tie.Need-translate-requires
+translate-requires c κs = search needs
 
 enum-known-word-34 : tie.Need-enum-known-word-34
 enum-known-word-34 c = search needs
 
-shift-requires-2 : tie.Need-shift-requires-2
-shift-requires-2 c κs = search needs
+translate-requires-2 : tie.Need-translate-requires-2
+translate-requires-2 c κs = search needs
 
 enum-told-14 : tie.Need-enum-told-14
 enum-told-14 c = search needs
@@ -416,7 +416,7 @@ returns-53 c =
     let b = c .before .before .before in
     let x = b .word33 .given .0 .0 in
     let e : toZ w32 (ofZ w32 x) ≡ x = search needs in
-    rw (b .word33 .given .1, c .before .shift .ensures .kept, e) (refl, refl)
+    rw (b .word33 .given .1, c .before .translate .ensures .kept, e) (refl, refl)
 
 returns-54 : tie.Need-returns-54
 unfolding obeys
@@ -424,7 +424,7 @@ returns-54 c =
     let b = c .before .before .before in
     let y = b .word34 .given .0 .0 in
     let e : toZ w32 (ofZ w32 y) ≡ y = search needs in
-    rw (b .word34 .given .1, c .before .shift2 .ensures .kept, e) (refl, refl)
+    rw (b .word34 .given .1, c .before .translate2 .ensures .kept, e) (refl, refl)
 
 returns-55 : tie.Need-returns-55
 unfolding obeys
@@ -493,9 +493,9 @@ obey-spec =
     put-size-high-requires
     enum-told-13
     enum-known-word-33
-    shift-requires
+    translate-requires
     enum-known-word-34
-    shift-requires-2
+    translate-requires-2
     enum-told-14
     returns
     returns-2
