@@ -4,13 +4,13 @@ use mathlib.Core.Bool.{true}
 use mathlib.Core.Logic.{⊎-elim}
 use Prim.Native.Nat.{ℕ, zero, suc, _-_, _/_, _^_, _<_, _≤_}
 use native.Mathlib.Omega.{arith}
-use lib.Dec.{leb→le, le→leb, ltb→lt, lt→ltb}
+use lib.Dec.{leb, ltb, leb→le, le→leb, ltb→lt, lt→ltb}
 use lib.IntN.{ℤ, pos, negsuc, negℤ, natAbs}
 use lib.Signed.{_≤ℤ_}
 use lib.Pow.{pow-mono}
 use borrow.Author.Tests.{ltb-true, leb-true, lt-ltb, le-ltb}
+use Rattle.truth.proofs.Bools.{both-true, either-true}
 use Rattle.words.specs.Fields.{int, holdsSigned}
-use Rattle.words.proofs.Tests.{both-left, both-right, either-cases}
 use Rattle.invariant.specs.State.{InBits}
 
 from-below : (h m : ℕ) → m < h → negℤ (pos h) ≤ℤ negsuc m
@@ -31,11 +31,11 @@ signed-in k n w h =
     rw (lt-ltb n (2 ^ 31) (omega (arith, small)))
     (record { from = from-zero (2 ^ k / 2) n; to = record { lt = lt→ltb n (2 ^ k / 2) l } }))
     (λ b.
-    let l : 2 ^ 32 - 2 ^ k / 2 ≤ n = leb-true _ _ (both-left _ _ b) in
-    let u : n < 2 ^ 32 = ltb-true _ _ (both-right _ _ b) in
+    let l : 2 ^ 32 - 2 ^ k / 2 ≤ n = leb-true _ _ (both-true (leb (2 ^ 32 - 2 ^ k / 2) n) _ b .0) in
+    let u : n < 2 ^ 32 = ltb-true _ _ (both-true (leb (2 ^ 32 - 2 ^ k / 2) n) _ b .1) in
     rw (le-ltb n (2 ^ 31) (omega (arith, small)))
     (record { from = from-below (2 ^ k / 2) (2 ^ 32 - suc n) (omega (arith, small)); to = record { lt = tt } }))
-    (either-cases _ _ h)
+    (either-true (ltb n (2 ^ k / 2)) _ h)
   where
     small : 2 ^ k ≤ 2 ^ 30
     small = pow-mono w

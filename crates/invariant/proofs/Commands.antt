@@ -24,7 +24,7 @@ use Rattle.engine.specs.Run.{drawingOf}
 use Rattle.invariant.specs.Actions.{Orderly}
 use Rattle.invariant.specs.State.{ValidBrush, ValidMasks, ValidClearing, ValidPlacing, ValidMachine, ValidHandles}
 use Rattle.invariant.proofs.Lists.{by-test}
-use Rattle.invariant.proofs.Machines.{shift-in, with-context, with-place, with-primitive, with-call, with-return}
+use Rattle.invariant.proofs.Machines.{translation-in, with-context, with-place, with-primitive, with-call, with-return}
 use Rattle.invariant.proofs.Reading.{InAll}
 use Rattle.invariant.proofs.Settings.{sourced-valid, laid-valid, sized-valid, laid-high-valid, sized-high-valid}
 
@@ -153,7 +153,7 @@ module _ (m : Machine) (hs : List ℕ) (v : ValidMachine m) (k : ValidHandles hs
       (λ stride _ height _. handles (laid-high-valid _ k stride height)) and
       (λ width _ height _. handles (sized-high-valid _ k width height)) and
       (λ addr _. untouched tt) and
-      (λ x h. placing (search (arith, shift-in))) and
-      (λ y h. placing (search (arith, shift-in))) and
+      (λ x h. placing (search (arith, translation-in))) and
+      (λ y h. placing (search (arith, translation-in))) and
       untouched tt and
       tt

@@ -7,8 +7,8 @@ use Prim.Native.Nat.{ℕ, _<_}
 use native.Mathlib.Omega.{arith}
 use lib.IntN.{ℤ}
 use lib.ListN.{length-take, length-drop, length-append}
-use Rattle.units.specs.Units.{meantShift, shiftAt}
-use Rattle.units.proofs.Meaning.{shift-of}
+use Rattle.units.specs.Units.{meantTranslation, translationAt}
+use Rattle.units.proofs.Meaning.{translation-of}
 use Rattle.engine.specs.declared.context.Context.{Context}
 use Rattle.engine.specs.declared.machine.Corner.{Corner}
 use Rattle.engine.specs.declared.machine.Machine.{Machine}
@@ -20,11 +20,11 @@ use Rattle.invariant.proofs.Bits.{field-most}
 use Rattle.invariant.proofs.Lists.{each-take, each-moved, each-at}
 
 -- a translation of 17 bits, as it is kept
-pub shift-in : (z : ℤ) → InBits 17 z → InBits 17 (meantShift (shiftAt z))
-shift-in z h = rw (shift-of z (omega (arith, field-most 17 z h)) .meant) h
+pub translation-in : (z : ℤ) → InBits 17 z → InBits 17 (meantTranslation (translationAt z))
+translation-in z h = rw (translation-of z (omega (arith, field-most 17 z h)) .meant) h
 
 pub starting-valid : ValidContext starting
-starting-valid = search (arith, shift-in)
+starting-valid = search (arith, translation-in)
 
 module _ {m : Machine} (v : ValidMachine m) where
   pub with-context : {c : Context} → ValidContext c → ValidMachine (withContext m c)

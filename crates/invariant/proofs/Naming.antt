@@ -1,13 +1,14 @@
 -- The numbers of a valid state name what the guide's tables name, and a vertex lies where document 01 places it. Assumes nothing.
 use mathlib.Core.Path.{_≡_}
-use mathlib.Core.Bool.{true}
+use mathlib.Core.Bool.{true, _||_}
 use mathlib.Core.Logic.{inl, inr, ⊎-elim}
 use Prim.Native.Nat.{ℕ}
 use native.Mathlib.Omega.{arith}
+use lib.Dec.{eqb}
 use borrow.Author.Tests.{eqb-true}
+use Rattle.truth.proofs.Bools.{either-true}
 use Rattle.action.specs.Numbers.{formatNumber, formatOf}
 use Rattle.action.proofs.Naming.{test-number, stencil-action-number, factor-number, format-number}
-use Rattle.words.proofs.Tests.{either-cases}
 use Rattle.engine.specs.declared.context.Brush.{Brush}
 use Rattle.engine.specs.Machine.{drawnFormat}
 use Rattle.invariant.specs.Numbers.{NamedBrush, NumbersMeant}
@@ -28,9 +29,10 @@ format-named : (n : ℕ) → drawnFormat n ≡ true → formatNumber (formatOf n
 unfolding drawnFormat
 format-named n e =
     format-number n
-    (⊎-elim (λ a. inl (inl (eqb-true _ _ a)))
-    (λ f. ⊎-elim (λ b. inl (inr (eqb-true _ _ b))) (λ c. inr (eqb-true _ _ c)) (either-cases _ _ f))
-    (either-cases _ _ e))
+    (⊎-elim
+    (λ f. ⊎-elim (λ a. inl (inl (eqb-true _ _ a))) (λ b. inl (inr (eqb-true _ _ b))) (either-true (eqb n 0) _ f))
+    (λ c. inr (eqb-true _ _ c))
+    (either-true (eqb n 0 || eqb n 3) _ e))
 
 pub numbers-meant : NumbersMeant
 numbers-meant = record {

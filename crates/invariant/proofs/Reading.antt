@@ -7,6 +7,7 @@ use native.Mathlib.Omega.{arith}
 use lib.Dec.{eqb}
 use lib.IntN.{ℤ}
 use borrow.Author.Tests.{ltb-true}
+use Rattle.truth.proofs.Bools.{both-true}
 use Rattle.words.specs.declared.field.Field.{Field}
 use Rattle.words.specs.declared.field.Field.the-variants.{Bits, Only, Signed}
 use Rattle.words.specs.declared.reading.Read.{Read}
@@ -17,7 +18,6 @@ use Rattle.words.specs.Table.{Row, row, Make, Found, none, some, find, rows, ro
 use Rattle.words.specs.Words.{command, checked, readAs, readWord}
 use Rattle.words.proofs.Digits.{fit-values}
 use Rattle.words.proofs.Table.{Sound, sound}
-use Rattle.words.proofs.Tests.{both-left, both-right}
 use Rattle.invariant.specs.State.{InBits}
 use Rattle.invariant.proofs.Bits.{signed-in}
 
@@ -38,9 +38,15 @@ fitting : (P : Word → Type 0) (fs : List Field) (make : Make fs) (ns : List �
 unfolding holds
 fitting P [] c ns w h a = a
 fitting P (f ∷ fs) c [] w h a = let z : _≡_ {A = ℕ} 0 1 = cc in absurd (omega arith)
-fitting P (Bits k ∷ fs) c (n ∷ ns) w h a = fitting P fs (c n) ns (omega arith) (both-right _ _ h) (a n (ltb-true _ _ (both-left _ _ h)))
-fitting P (Only k m ∷ fs) c (n ∷ ns) w h a = fitting P fs (c n) ns (omega arith) (both-right _ _ h) (a n (both-left _ _ (both-left _ _ h)))
-fitting P (Signed k ∷ fs) c (n ∷ ns) w h a = fitting P fs (c (int n)) ns (omega arith) (both-right _ _ h) (a (int n) (signed-in k n (omega arith) (both-left _ _ h)))
+fitting P (Bits k ∷ fs) c (n ∷ ns) w h a =
+    let t = both-true (holds (Bits k) n) _ h in
+    fitting P fs (c n) ns (omega arith) (t .1) (a n (ltb-true _ _ (t .0)))
+fitting P (Only k m ∷ fs) c (n ∷ ns) w h a =
+    let t = both-true (holds (Only k m) n) _ h in
+    fitting P fs (c n) ns (omega arith) (t .1) (a n (both-true (meant m n) _ (t .0) .0))
+fitting P (Signed k ∷ fs) c (n ∷ ns) w h a =
+    let t = both-true (holds (Signed k) n) _ h in
+    fitting P fs (c (int n)) ns (omega arith) (t .1) (a (int n) (signed-in k n (omega arith) (t .0)))
 
 abbrev InFound : (Word → Type 0) → Found → Type 0
 InFound P none = Unit {0}

@@ -17,7 +17,7 @@ use Rattle.invariant.proofs.Lists.{by-test}
 use Rattle.invariant.proofs.Steps.{step-valid, next-valid}
 
 pub record ValidRan (r : Ran) : Type 0 where
-  pub place : Aligned (r .place)
+  pub place : Aligned (r .stop .place)
   pub actions : Each (λ (action : Action). Orderly (action .drawing)) (r .actions)
 
 after-valid : (at : ℕ) (c : Context) (event : Event) (rest : Ran) → Aligned at → OrderlyEvent event → ValidRan rest → ValidRan (after at c event rest)

@@ -5,8 +5,7 @@ use mathlib.Core.List.{List}
 use Prim.Native.Nat.{ℕ, _<_}
 use native.Mathlib.Omega.{arith}
 use lib.ListN.{length-set, length-replicate, replicate, getD-replicate}
-use Rattle.words.specs.Fields.{either}
-use Rattle.engine.specs.Handles.{place, put, handleAt, sourced, laidOut, sized, laidOutHigh, sizedHigh}
+use Rattle.engine.specs.Handles.{settings, place, put, handleAt, sourced, laidOut, sized, laidOutHigh, sizedHigh}
 use Rattle.engine.specs.Machine.{drawnFormat}
 use Rattle.invariant.specs.State.{ValidHandles}
 use Rattle.invariant.proofs.Lists.{set-at}
@@ -49,9 +48,9 @@ module _ {hs : List ℕ} (h : ℕ) (v : ValidHandles hs) where
   sized-high-valid width height = put-other h 12 height (put-other h 11 width v (omega arith)) (omega arith)
 
 -- 'Every run starts with all handles unset.'
-pub unset-valid : ValidHandles (replicate 512 0)
-unfolding handleAt drawnFormat either
+pub unset-valid : ValidHandles (replicate settings 0)
+unfolding handleAt drawnFormat
 unset-valid = record {
-  places = length-replicate {A = ℕ} 512 0;
-  format = λ i. subst Drawn (sym (getD-replicate 512 (place i 3) 0 0 (omega arith))) refl;
+  places = length-replicate {A = ℕ} settings 0;
+  format = λ i. subst Drawn (sym (getD-replicate settings (place i 3) 0 0 (omega arith))) refl;
 }

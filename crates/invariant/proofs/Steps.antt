@@ -4,13 +4,9 @@ use mathlib.Core.List.{List}
 use Prim.Native.Nat.{ℕ, _+_, _-_, _%_}
 use native.Mathlib.Omega.{arith}
 use lib.Dec.{eqb, ltb}
-use lib.Signed.{_≤ℤ_}
-use Rattle.units.specs.declared.Sixteenths.{Sixteenths}
-use Rattle.units.specs.Units.{leastOf, mostOf, meantSixteenths}
-use Rattle.units.proofs.Meaning.{in-order, least-kept, most-kept}
-use Rattle.action.specs.Ends.{shortEnds}
 use Rattle.action.specs.declared.shape.Segment.{Segment}
-use Rattle.shape.specs.Meaning.{InOrder}
+use Rattle.action.specs.Ends.{shortEnds}
+use Rattle.action.proofs.Corners.{corners-in-order}
 use Rattle.engine.specs.declared.context.Context.{Context}
 use Rattle.engine.specs.declared.handles.Judged.{Judged}
 use Rattle.engine.specs.declared.handles.Judged.the-variants as j
@@ -27,7 +23,7 @@ use Rattle.engine.specs.declared.machine.Then.the-variants as t
 use Rattle.engine.specs.Context.{starting}
 use Rattle.engine.specs.Handles.{handleAt, judged}
 use Rattle.engine.specs.Kept.{keptWith, newest, dropped, pushed, popped}
-use Rattle.engine.specs.Machine.{rectangleOf, bitmapped, segmented, closed, openedAt, ended, cornered, vertexed, obeys, Steps, follows, stepsBy, steps}
+use Rattle.engine.specs.Machine.{bitmapped, segmented, closed, openedAt, linked, cornered, vertexed, obeys, Steps, follows, stepsBy, steps}
 use Rattle.engine.specs.Run.{drawingOf, State, placeOf, stepOf, eventOf, settled, nextOf}
 use Rattle.engine.proofs.Saves.{kept-as-said}
 use Rattle.invariant.specs.Each.{Each}
@@ -43,13 +39,6 @@ pub record ValidStepped (s : Stepped) : Type 0 where
   pub event : OrderlyEvent (s .event)
 
 -- WHAT A VERTEX DRAWS
-corners-in-order : (c : Corner) (v : Vertex) (width : ℕ) → InOrder (rectangleOf c v width)
-unfolding rectangleOf
-corners-in-order c v width = record { across = ordered (c .x) (v .x); down = ordered (c .y) (v .y) }
-  where
-    ordered : (a b : Sixteenths) → meantSixteenths (leastOf a b) ≤ℤ meantSixteenths (mostOf a b)
-    ordered a b = in-order (leastOf a b) (mostOf a b) (omega (arith, least-kept a b, most-kept a b))
-
 segment-orderly : (d : Segment) → OrderlyEvent (segmented d)
 unfolding segmented drawingOf
 segment-orderly d = by-test OrderlyEvent (shortEnds d) (λ short c. short) (λ long. tt)
@@ -61,7 +50,7 @@ bitmap-orderly j.Undrawable = tt
 
 -- it changes nothing but the open corner or end
 module _ (m : Machine) (valid : ValidMachine m) where
-  end-valid : (v : Vertex) (next : Corner) → ValidStepped (ended m v next)
+  end-valid : (v : Vertex) (next : Corner) → ValidStepped (linked m v next)
   end-valid v next =
       by-test ValidStepped (eqb (m .corner .waits) 0) (λ w. record { machine = with-corner valid (openedAt v); event = tt })
       (λ w. record { machine = with-corner valid next; event = segment-orderly _ })
@@ -70,7 +59,7 @@ module _ (m : Machine) (valid : ValidMachine m) where
   unfolding drawingOf
   corner-valid v =
       by-test ValidStepped (eqb (m .corner .waits) 0) (λ w. record { machine = with-corner valid (openedAt v); event = tt })
-      (λ w. record { machine = with-corner valid (closed (m .corner)); event = λ c. corners-in-order (m .corner) v _ })
+      (λ w. record { machine = with-corner valid (closed (m .corner)); event = λ c. corners-in-order (m .corner .x) (m .corner .y) (v .x) (v .y) _ })
 
   vertex-valid : (hs : List ℕ) (memory : ℕ) (v : Vertex) → ValidStepped (vertexed m hs memory v)
   unfolding vertexed drawingOf

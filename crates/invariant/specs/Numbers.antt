@@ -4,7 +4,7 @@ use mathlib.Core.Path.{_≡_}
 use mathlib.Core.List.{List}
 use Prim.Native.Nat.{ℕ, _*_, _^_, _<_}
 use lib.IntN.{ℤ, pos, _+ℤ_, _*ℤ_}
-use Rattle.units.specs.Units.{meantSixteenths, meantShift}
+use Rattle.units.specs.Units.{meantSixteenths, meantTranslation}
 use Rattle.action.specs.Numbers.{testNumber, testOf, stencilActionNumber, stencilActionOf, factorNumber, factorOf, formatNumber, formatOf}
 use Rattle.engine.specs.declared.context.Brush.{Brush}
 use Rattle.engine.specs.declared.context.Placing.{Placing}
@@ -29,10 +29,10 @@ pub record NamedFormats (hs : List ℕ) : Type 0 where
 -- VERTEX2II number 9: the position that is kept means just this integer, on either side of the screen's edge, and 4-frac is not below 0
 pub record MeantVertices (p : Placing) : Type 0 where
   pub unit : unitOf (p .frac) * 2 ^ p .frac ≡ 16
-  pub x2f : (x y : ℤ) → InBits 15 x → meantSixteenths (placed2f p x y .x) ≡ x *ℤ pos (unitOf (p .frac)) +ℤ meantShift (p .dx)
-  pub y2f : (x y : ℤ) → InBits 15 y → meantSixteenths (placed2f p x y .y) ≡ y *ℤ pos (unitOf (p .frac)) +ℤ meantShift (p .dy)
-  pub x2ii : (x y handle cell : ℕ) → x < 512 → meantSixteenths (placed2ii p x y handle cell .x) ≡ pos (16 * x) +ℤ meantShift (p .dx)
-  pub y2ii : (x y handle cell : ℕ) → y < 512 → meantSixteenths (placed2ii p x y handle cell .y) ≡ pos (16 * y) +ℤ meantShift (p .dy)
+  pub x2f : (x y : ℤ) → InBits 15 x → meantSixteenths (placed2f p x y .x) ≡ x *ℤ pos (unitOf (p .frac)) +ℤ meantTranslation (p .dx)
+  pub y2f : (x y : ℤ) → InBits 15 y → meantSixteenths (placed2f p x y .y) ≡ y *ℤ pos (unitOf (p .frac)) +ℤ meantTranslation (p .dy)
+  pub x2ii : (x y handle cell : ℕ) → x < 512 → meantSixteenths (placed2ii p x y handle cell .x) ≡ pos (16 * x) +ℤ meantTranslation (p .dx)
+  pub y2ii : (x y handle cell : ℕ) → y < 512 → meantSixteenths (placed2ii p x y handle cell .y) ≡ pos (16 * y) +ℤ meantTranslation (p .dy)
 
 -- THE CLAIM
 pub record NumbersMeant : Type 0 where

@@ -9,16 +9,16 @@ use Prim.Native.Nat.{ℕ, zero, suc, _/_, _%_, _^_, _≤_, _<_}
 use lib.IntN.{ℤ, pos, negℤ}
 use lib.ListN.{length}
 use lib.Signed.{_≤ℤ_, _<ℤ_}
-use Rattle.units.specs.Units.{meantShift}
+use Rattle.units.specs.Units.{meantTranslation}
 use Rattle.action.specs.declared.ink.ClearValues.{ClearValues}
 use Rattle.action.specs.declared.ink.Masks.{Masks}
 use Rattle.engine.specs.declared.context.Brush.{Brush}
 use Rattle.engine.specs.declared.context.Context.{Context}
 use Rattle.engine.specs.declared.context.Placing.{Placing}
 use Rattle.engine.specs.declared.machine.Machine.{Machine}
-use Rattle.engine.specs.Handles.{handleAt}
+use Rattle.engine.specs.Handles.{settings, handleAt}
 use Rattle.engine.specs.Machine.{drawnFormat, drawnPrimitive}
-use Rattle.engine.specs.Run.{State, nextOf, run, atStart}
+use Rattle.engine.specs.Run.{State, nextOf, atStart, runOf}
 use Rattle.engine.specs.Saves.{Whole}
 use Rattle.invariant.specs.Each.{Each}
 
@@ -69,8 +69,8 @@ pub record ValidPlacing (p : Placing) : Type 0 where
   pub pointsize : p .pointsize < 8192
   pub linewidth : p .linewidth < 4096
   pub frac : p .frac ≤ 4
-  pub dx : InBits 17 (meantShift (p .dx))
-  pub dy : InBits 17 (meantShift (p .dy))
+  pub dx : InBits 17 (meantTranslation (p .dx))
+  pub dy : InBits 17 (meantTranslation (p .dy))
   pub handle : p .handle < 32
   pub cell : p .cell < 128
 
@@ -95,7 +95,7 @@ pub record ValidMachine (m : Machine) : Type 0 where
 
 -- THE HANDLES. Row 13 refuses a BITMAP_LAYOUT with a format that is not drawn; where none was given the format is 0, which is drawn
 pub record ValidHandles (hs : List ℕ) : Type 0 where
-  pub places : length hs ≡ 512
+  pub places : length hs ≡ settings
   pub format : (handle : ℕ) → drawnFormat (handleAt hs handle .format) ≡ true
 
 -- THE STATE. 'Four contexts are kept': what a restore loads is valid too
@@ -116,4 +116,4 @@ pub record StatesValid : Type 0 where
   pub step : (list : List ℕ) (memory : ℕ) (x : State) → Valid x → Valid (nextOf list memory x)
   pub always : (list : List ℕ) (memory n : ℕ) → Valid (stateAfter list memory n)
   -- 'Numbers 10 to 19 carry the byte offset of the word': where a run stops is where a word can lie
-  pub stops : (list : List ℕ) (memory limit : ℕ) → Aligned (run list memory limit atStart .place)
+  pub stops : (list : List ℕ) (memory limit : ℕ) → Aligned (runOf list memory limit .stop .place)
