@@ -10,7 +10,7 @@ use Rattle.truth.proofs.Bools.{both-true, both-made, not-so}
 use Rattle.engine.specs.Handles.{cellStart, aligned, drawable, bitmapOf, judged}
 use Rattle.engine.specs.declared.handles.Handle.{Handle}
 use Rattle.engine.specs.declared.handles.Judged.the-variants as j
-use Rattle.engine.specs.declared.handles.Vertex.{Vertex}
+use Rattle.engine.specs.declared.vertex.Vertex.{Vertex}
 
 -- what `drawable` tells
 pub record Drawn (h : Handle) (cell memory : ℕ) : Type 0 where

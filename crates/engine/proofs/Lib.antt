@@ -1,3 +1,4 @@
+mod Calling
 mod Endings
 mod Four
 mod Judging

@@ -14,9 +14,10 @@ use Rattle.engine.specs.declared.kept.Kept.{Kept}
 use Rattle.engine.specs.declared.machine.Event.{Event}
 use Rattle.engine.specs.declared.machine.Event.the-variants as e
 use Rattle.engine.specs.declared.machine.Machine.{Machine}
-use Rattle.engine.specs.Kept.{keptWith, newest, dropped, begun, pushed, popped}
+use Rattle.engine.specs.Kept.{keptWith, newest, dropped, begun, pushed, popped, called, returned}
 use Rattle.engine.specs.Changes.{withPlace}
-use Rattle.engine.specs.Machine.{Steps, obeys, stepsBy, steps}
+use Rattle.engine.specs.Command.{obeys}
+use Rattle.engine.specs.Machine.{Steps, stepsBy, steps}
 use Rattle.engine.specs.Run.{State, placeOf, settled, eventOf, nextOf}
 use Rattle.engine.specs.Saves.{saved, Whole, Saved, Restored, afterSaves, KeptAsSaid}
 
@@ -89,10 +90,12 @@ saves [] = refl
 saves (c ∷ cs) = save (afterSaves cs) c (saves-whole cs) .list ∙ ap (λ l. take 4 (c ∷ l)) (saves cs) ∙ ap (λ l. c ∷ l) (four-three cs)
 
 settled-whole : (event : Event) (x : Engine) → Whole (x .kept) → Whole (settled event x .kept)
-unfolding pushed popped
+unfolding pushed popped called returned
 settled-whole e.Quiet x w = w
 settled-whole e.Save x w = save (x .kept) (x .now .context) w .whole
 settled-whole e.Restore x w = restore (x .kept) w .whole
+settled-whole (e.Call to) x w = w
+settled-whole e.Return x w = w
 settled-whole (e.Draw shape) x w = w
 settled-whole e.Ended x w = w
 settled-whole (e.Fault number) x w = w

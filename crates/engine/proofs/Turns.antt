@@ -8,11 +8,12 @@ use native.Mathlib.Numerals.{sub-one}
 use borrow.Author.Tests.{lt-ltb, le-ltb}
 use lib.ListN.{length}
 use Rattle.engine.specs.declared.kept.Engine.{Engine}
+use Rattle.engine.specs.declared.context.Context.{Context}
+use Rattle.engine.specs.declared.machine.Event.{Event}
 use Rattle.engine.specs.declared.machine.Event.the-variants as e
 use Rattle.engine.specs.declared.machine.Shape.{Shape}
 use Rattle.engine.specs.declared.machine.Stepped.{Stepped}
 use Rattle.engine.specs.declared.run.Find.the-variants as f
-use Rattle.engine.specs.Kept.{pushed, popped}
 use Rattle.engine.specs.Run.{State, placeOf, stepOf, settled, actionOf, stopAt, Ran, run, after, counted, more, then, heard}
 
 -- one word more, counted here or there
@@ -40,23 +41,12 @@ module _ (list : List ℕ) (memory : ℕ) (x : State) (allowed : ℕ) where
     turn (suc n) some inside = rw (sub-one (suc n), is, are, lt-ltb _ _ inside)
 
     module _ (left : ℕ) (some : 0 < left) (within : left ≤ allowed) (inside : placeOf x < length list) where
-      pub on-quiet : s .event ≡ e.Quiet →
-          more (allowed - left) (run list memory left x) ≡
-          more (allowed - (left - 1)) (run list memory (left - 1) (record { engine = record { now = s .machine; kept = x .engine .kept }; handles = hs }))
-      unfolding after
-      on-quiet h = rw (turn left some inside, h) (on-count allowed left _ some within)
-
-      pub on-save : (y : Engine) → y ≡ pushed (record { now = s .machine; kept = x .engine .kept }) → s .event ≡ e.Save →
+      -- a word after which the run goes on with no more to tell
+      pub on : (event : Event) → ((c : Context) (rest : Ran) → after (placeOf x) c event rest ≡ counted rest) → s .event ≡ event →
+          (y : Engine) → y ≡ settled event (record { now = s .machine; kept = x .engine .kept }) →
           more (allowed - left) (run list memory left x) ≡
           more (allowed - (left - 1)) (run list memory (left - 1) (record { engine = y; handles = hs }))
-      unfolding after
-      on-save y q h = rw (turn left some inside, h, q) (on-count allowed left _ some within)
-
-      pub on-restore : (y : Engine) → y ≡ popped (record { now = s .machine; kept = x .engine .kept }) → s .event ≡ e.Restore →
-          more (allowed - left) (run list memory left x) ≡
-          more (allowed - (left - 1)) (run list memory (left - 1) (record { engine = y; handles = hs }))
-      unfolding after
-      on-restore y q h = rw (turn left some inside, h, q) (on-count allowed left _ some within)
+      on event quiet h y q = rw (turn left some inside, h, q, quiet _ _) (on-count allowed left _ some within)
 
       -- an action that is passed over, and one that is told
       pub on-draw : (shape : Shape) → s .event ≡ e.Draw shape →

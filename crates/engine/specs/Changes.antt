@@ -1,12 +1,13 @@
 -- A state with one part changed. A record is always written whole, so each definition here changes the values that its name and its arguments
 -- name, and repeats the others.
+use mathlib.Core.List.{List}
 use Prim.Native.Nat.{ℕ}
 use Rattle.action.specs.declared.ink.ClearValues.{ClearValues}
 use Rattle.action.specs.declared.ink.Masks.{Masks}
 use Rattle.engine.specs.declared.context.Brush.{Brush}
 use Rattle.engine.specs.declared.context.Context.{Context}
 use Rattle.engine.specs.declared.context.Placing.{Placing}
-use Rattle.engine.specs.declared.machine.Corner.{Corner}
+use Rattle.engine.specs.declared.vertex.Corner.{Corner}
 use Rattle.engine.specs.declared.machine.Machine.{Machine}
 
 -- A MACHINE
@@ -27,6 +28,9 @@ withPlacing m p = withContext m (record { brush = m .context .brush; masks = m .
 
 abbrev pub withPlace : Machine → ℕ → Machine
 withPlace m to = record { context = m .context; calls = m .calls; depth = m .depth; primitive = m .primitive; at = to; corner = m .corner }
+
+abbrev pub withCalls : Machine → List ℕ → ℕ → ℕ → Machine
+withCalls m calls depth to = record { context = m .context; calls = calls; depth = depth; primitive = m .primitive; at = to; corner = m .corner }
 
 abbrev pub withCorner : Machine → Corner → Machine
 withCorner m c = record { context = m .context; calls = m .calls; depth = m .depth; primitive = m .primitive; at = m .at; corner = c }

@@ -15,7 +15,7 @@ use Rattle.action.specs.Numbers.{formatOf}
 use Rattle.engine.specs.declared.handles.Handle.{Handle}
 use Rattle.engine.specs.declared.handles.Judged.{Judged}
 use Rattle.engine.specs.declared.handles.Judged.the-variants as j
-use Rattle.engine.specs.declared.handles.Vertex.{Vertex}
+use Rattle.engine.specs.declared.vertex.Vertex.{Vertex}
 
 abbrev pub settings : ℕ
 settings = 512

@@ -1,7 +1,10 @@
 pub mod Changes
+pub mod Command
 pub mod Context
+pub mod Drawn
 pub mod Handles
-pub mod Machine
 pub mod Kept
+pub mod Machine
 pub mod Run
 pub mod Saves
+pub mod Vertex

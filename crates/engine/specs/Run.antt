@@ -29,7 +29,7 @@ use Rattle.engine.specs.declared.machine.Shape.the-variants as s
 use Rattle.engine.specs.Changes.{withPlace}
 use Rattle.engine.specs.Context.{inkOf, scissorOf}
 use Rattle.engine.specs.Handles.{settings}
-use Rattle.engine.specs.Kept.{begun, pushed, popped}
+use Rattle.engine.specs.Kept.{begun, pushed, popped, called, returned}
 use Rattle.engine.specs.Machine.{Steps, steps}
 
 -- THE LIMITS. 'List: 4..8,192 bytes', 'Graphics memory (RAM_G): 0..1,048,576 bytes'. A run takes any list and memory that are no longer than this.
@@ -72,11 +72,13 @@ stepOf list memory x = steps (withPlace (x .engine .now) (placeOf x + 4)) (x .ha
 abbrev pub eventOf : List ℕ → ℕ → State → Event
 eventOf list memory x = stepOf list memory x .stepped .event
 
--- SAVE_CONTEXT and RESTORE_CONTEXT are the engine's, every other command the machine's
+-- SAVE_CONTEXT, RESTORE_CONTEXT, CALL and RETURN are the engine's, every other command the machine's
 abbrev pub settled : Event → Engine → Engine
 settled e.Quiet x = x
 settled e.Save x = pushed x
 settled e.Restore x = popped x
+settled (e.Call to) x = called x to
+settled e.Return x = returned x
 settled (e.Draw shape) x = x
 settled e.Ended x = x
 settled (e.Fault number) x = x
@@ -113,6 +115,8 @@ unfoldable pub after : ℕ → Context → Event → Ran → Ran
 after at c e.Quiet rest = counted rest
 after at c e.Save rest = counted rest
 after at c e.Restore rest = counted rest
+after at c (e.Call to) rest = counted rest
+after at c e.Return rest = counted rest
 after at c (e.Draw shape) rest = acted (actionOf c shape) (counted rest)
 after at c e.Ended rest = stopped (stopAt 0 0) 1
 after at c (e.Fault number) rest = stopped (stopAt number at) 1

@@ -9,12 +9,12 @@ ghost use mathlib.Core.Path.{_≡_};
 ghost use Prim.Native.Nat.{_+_, _*_, _%_, _≤_, _<_, _^_};
 ghost use Rattle.engine.specs.Run.{mostMemory};
 ghost use Rattle.engine.specs.Handles.{put, get, sourced, laidOut, sized, laidOutHigh, sizedHigh, given, joined, handleAt, coverOf, judged, Narrow};
+use crate::vertex::Vertex;
 use action::Area;
 use action::Bitmap;
 use action::Format;
 use units::LengthInPixels;
 use units::Pixels;
-use units::Sixteenths;
 
 pub const SETTINGS: usize = 512;
 
@@ -27,14 +27,6 @@ pub struct Handle {
     pub rows: u64,
     pub width: LengthInPixels,
     pub height: LengthInPixels,
-}
-
-// A vertex placed on the screen, with the handle and cell that it draws if BITMAPS is begun.
-pub struct Vertex {
-    pub x: Sixteenths,
-    pub y: Sixteenths,
-    pub handle: u32,
-    pub cell: u32,
 }
 
 fn put(handles: &mut [u32; SETTINGS], handle: u32, place: u32, value: u32)

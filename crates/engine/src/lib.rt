@@ -2,11 +2,14 @@
 //
 // `advance` goes on from an engine to the next drawing action, the end or the fault; `finish` runs a whole list to its end.
 // Their callers never see a word.
+mod command;
 mod context;
+mod drawn;
 mod handles;
 mod kept;
 mod machine;
 mod run;
+mod vertex;
 
 pub use handles::SETTINGS;
 pub use kept::Engine;

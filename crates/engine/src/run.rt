@@ -118,7 +118,7 @@ fn is_kept(count: usize) -> bool
 }
 
 // Goes on from an engine, with so many words allowed: to the next action if `halt` is set, else to the list's end or the
-// fault. The machine and the kept contexts are held apart, since few words touch the latter.
+// fault. The machine and the kept contexts are held apart, since few words touch the latter: only those that do make an engine of them.
 pub fn advance(
     from: Engine,
     handles: &mut [u32; SETTINGS],
@@ -148,22 +148,47 @@ pub fn advance(
         match event {
             Event::Quiet => {}
             Event::Save => {
-                let context = now.context;
-                let more = kept.push(context);
-                kept = more;
+                let engine = Engine {
+                    now: now,
+                    kept: kept,
+                };
+                let next = engine.push();
+                now = next.now;
+                kept = next.kept;
             }
             Event::Restore => {
                 let count = kept.count;
-                if is_kept(count) {
+                let newest = if is_kept(count) {
                     let last = count - 1;
-                    let newest = kept.contexts[last];
-                    now.context = newest;
+                    kept.contexts[last]
                 } else {
-                    let first = Context::start();
-                    now.context = first;
-                }
-                let fewer = kept.pop();
-                kept = fewer;
+                    Context::start()
+                };
+                let engine = Engine {
+                    now: now,
+                    kept: kept,
+                };
+                let next = engine.pop(newest);
+                now = next.now;
+                kept = next.kept;
+            }
+            Event::Call(to) => {
+                let engine = Engine {
+                    now: now,
+                    kept: kept,
+                };
+                let next = engine.call(to);
+                now = next.now;
+                kept = next.kept;
+            }
+            Event::Return => {
+                let engine = Engine {
+                    now: now,
+                    kept: kept,
+                };
+                let next = engine.back();
+                now = next.now;
+                kept = next.kept;
             }
             Event::Draw(shape) => {
                 if halt {

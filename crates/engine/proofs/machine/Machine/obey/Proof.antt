@@ -3,7 +3,7 @@ use mir.Syntax.{w32}
 use mir.Val.{toZ, ofZ}
 use borrow.Author.Needs.{needs}
 use borrow.Author.Tests.{le-leb, lt-leb, ne-eqb}
-use Rattle.engine.specs.Machine.{obeys}
+use Rattle.engine.specs.Command.{obeys}
 use Rattle.engine.proofs.machine.Machine.obey.Statement.{statement}
 use Rattle.engine.proofs.machine.Machine.obey.Tie as tie
 
@@ -124,9 +124,6 @@ enum-known-word-24 c = search needs
 enum-known-word-25 : tie.Need-enum-known-word-25
 enum-known-word-25 c = search needs
 
-call-requires : tie.Need-call-requires
-call-requires c κs = search needs
-
 enum-known-word-26 : tie.Need-enum-known-word-26
 enum-known-word-26 c = search needs
 
@@ -150,9 +147,6 @@ enum-told-10 c = search needs
 
 enum-told-11 : tie.Need-enum-told-11
 enum-told-11 c = search needs
-
-back-requires : tie.Need-back-requires
-back-requires c κs = search needs
 
 enum-told-12 : tie.Need-enum-told-12
 enum-told-12 c = search needs
@@ -340,7 +334,7 @@ returns-34 c = rw (c .before .before .before .word25 .given .1, le-leb _ _ (c .i
 
 returns-35 : tie.Need-returns-35
 unfolding obeys
-returns-35 c = rw (c .before .before .before .before .before .word25 .given .1, c .before .if4 .taken, lt-leb _ _ (c .before .before .if3 .left)) (rw (c .call .ensures), refl)
+returns-35 c = rw (c .before .before .before .before .word25 .given .1, c .if4 .taken, lt-leb _ _ (c .before .if3 .left)) (refl, refl)
 
 returns-36 : tie.Need-returns-36
 unfolding obeys
@@ -384,7 +378,7 @@ returns-45 c = rw (c .before .before .enum-told11 .given .1, c .if7 .taken) (ref
 
 returns-46 : tie.Need-returns-46
 unfolding obeys
-returns-46 c = rw (c .before .before .before .enum-told11 .given .1, ne-eqb _ _ (c .before .if7 .left)) (rw (c .back .ensures), refl)
+returns-46 c = rw (c .before .before .enum-told11 .given .1, ne-eqb _ _ (c .if7 .left)) (refl, refl)
 
 returns-47 : tie.Need-returns-47
 unfolding obeys
@@ -473,7 +467,6 @@ obey-spec =
     enum-known-word-23
     enum-known-word-24
     enum-known-word-25
-    call-requires
     enum-known-word-26
     enum-known-word-27
     is-drawn-primitive-requires
@@ -482,7 +475,6 @@ obey-spec =
     enum-told-9
     enum-told-10
     enum-told-11
-    back-requires
     enum-told-12
     enum-known-word-29
     clear-event-requires

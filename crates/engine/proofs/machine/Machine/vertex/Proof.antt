@@ -1,6 +1,6 @@
 use borrow.Author.Needs.{needs}
 use borrow.Author.Tests.{ne-eqb}
-use Rattle.engine.specs.Machine.{vertexed}
+use Rattle.engine.specs.Vertex.{vertexed}
 use Rattle.engine.proofs.machine.Machine.vertex.Statement.{statement}
 use Rattle.engine.proofs.machine.Machine.vertex.Tie as tie
 

@@ -2,10 +2,10 @@ use mathlib.Core.Path.{_≡_}
 use mir.Syntax.{w32}
 use mir.Val.{toZ, ofZ}
 use borrow.Author.Needs.{needs}
-use Rattle.engine.specs.Machine.{placed2f}
+use Rattle.engine.specs.Vertex.{placed2f}
 use Rattle.units.proofs.Meaning.{moved-at}
-use Rattle.engine.proofs.machine.place2f.Statement.{statement}
-use Rattle.engine.proofs.machine.place2f.Tie as tie
+use Rattle.engine.proofs.vertex.place2f.Statement.{statement}
+use Rattle.engine.proofs.vertex.place2f.Tie as tie
 
 unit-requires : tie.Need-unit-requires
 unit-requires c κs = search needs

@@ -1,8 +1,8 @@
 use borrow.Author.Needs.{needs}
-use Rattle.engine.specs.Machine.{placed2ii}
+use Rattle.engine.specs.Vertex.{placed2ii}
 use Rattle.units.proofs.Meaning.{sampled-moved-at}
-use Rattle.engine.proofs.machine.place2ii.Statement.{statement}
-use Rattle.engine.proofs.machine.place2ii.Tie as tie
+use Rattle.engine.proofs.vertex.place2ii.Statement.{statement}
+use Rattle.engine.proofs.vertex.place2ii.Tie as tie
 
 of-requires : tie.Need-of-requires
 of-requires c κs = search needs

@@ -1,7 +1,7 @@
 use mathlib.Core.Path.{refl}
-use Rattle.engine.specs.Machine.{drawnFormat}
-use Rattle.engine.proofs.machine.is_drawn_format.Statement.{statement}
-use Rattle.engine.proofs.machine.is_drawn_format.Tie as tie
+use Rattle.engine.specs.Drawn.{drawnFormat}
+use Rattle.engine.proofs.drawn.is_drawn_format.Statement.{statement}
+use Rattle.engine.proofs.drawn.is_drawn_format.Tie as tie
 
 returns : tie.Need-returns
 unfolding drawnFormat

@@ -3,8 +3,8 @@ use Prim.Native.Nat.{_-_}
 use native.Mathlib.Omega.{arith}
 use borrow.Author.Needs.{needs}
 use Rattle.truth.proofs.Arms.{past}
-use Rattle.engine.proofs.machine.unit.Statement.{statement}
-use Rattle.engine.proofs.machine.unit.Tie as tie
+use Rattle.engine.proofs.vertex.unit.Statement.{statement}
+use Rattle.engine.proofs.vertex.unit.Tie as tie
 
 returns : tie.Need-returns
 returns c = rw (c .match .keys1) (refl, search needs)

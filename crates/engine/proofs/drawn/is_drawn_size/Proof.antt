@@ -1,7 +1,7 @@
 use mathlib.Core.Path.{refl}
-use Rattle.engine.specs.Machine.{drawnSize}
-use Rattle.engine.proofs.machine.is_drawn_size.Statement.{statement}
-use Rattle.engine.proofs.machine.is_drawn_size.Tie as tie
+use Rattle.engine.specs.Drawn.{drawnSize}
+use Rattle.engine.proofs.drawn.is_drawn_size.Statement.{statement}
+use Rattle.engine.proofs.drawn.is_drawn_size.Tie as tie
 
 returns : tie.Need-returns
 unfolding drawnSize

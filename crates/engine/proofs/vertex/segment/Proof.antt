@@ -1,7 +1,7 @@
 use mathlib.Core.Path.{refl}
-use Rattle.engine.specs.Machine.{segmentFrom}
-use Rattle.engine.proofs.machine.segment.Statement.{statement}
-use Rattle.engine.proofs.machine.segment.Tie as tie
+use Rattle.engine.specs.Vertex.{segmentFrom}
+use Rattle.engine.proofs.vertex.segment.Statement.{statement}
+use Rattle.engine.proofs.vertex.segment.Tie as tie
 
 returns : tie.Need-returns
 unfolding segmentFrom

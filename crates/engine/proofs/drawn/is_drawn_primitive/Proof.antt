@@ -1,7 +1,7 @@
 use mathlib.Core.Path.{refl}
-use Rattle.engine.specs.Machine.{drawnPrimitive}
-use Rattle.engine.proofs.machine.is_drawn_primitive.Statement.{statement}
-use Rattle.engine.proofs.machine.is_drawn_primitive.Tie as tie
+use Rattle.engine.specs.Drawn.{drawnPrimitive}
+use Rattle.engine.proofs.drawn.is_drawn_primitive.Statement.{statement}
+use Rattle.engine.proofs.drawn.is_drawn_primitive.Tie as tie
 
 returns : tie.Need-returns
 unfolding drawnPrimitive

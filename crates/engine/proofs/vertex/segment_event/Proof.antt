@@ -1,7 +1,7 @@
 use borrow.Author.Needs.{needs}
-use Rattle.engine.specs.Machine.{segmented}
-use Rattle.engine.proofs.machine.segment_event.Statement.{statement}
-use Rattle.engine.proofs.machine.segment_event.Tie as tie
+use Rattle.engine.specs.Vertex.{segmented}
+use Rattle.engine.proofs.vertex.segment_event.Statement.{statement}
+use Rattle.engine.proofs.vertex.segment_event.Tie as tie
 
 segment-requires : tie.Need-segment-requires
 segment-requires c κs = search needs

@@ -2,10 +2,10 @@ use mathlib.Core.Path.{_≡_}
 use Prim.Native.Nat.{ℕ}
 use lib.ListN.{length}
 use borrow.Author.Needs.{needs}
-use Rattle.engine.specs.Machine.{returned}
+use Rattle.engine.specs.Kept.{returned}
 use Rattle.engine.proofs.Four.{shift-out}
-use Rattle.engine.proofs.machine.Machine.back.Statement.{statement}
-use Rattle.engine.proofs.machine.Machine.back.Tie as tie
+use Rattle.engine.proofs.kept.Engine.back.Statement.{statement}
+use Rattle.engine.proofs.kept.Engine.back.Tie as tie
 
 element-copy-out-a : tie.Need-element-copy-out-a
 element-copy-out-a c = search needs
@@ -19,13 +19,13 @@ element-copy-out-c c = search needs
 element-copy-out-d : tie.Need-element-copy-out-d
 element-copy-out-d c = search needs
 
-sub-self : tie.Need-sub-self
-sub-self c = search needs
+sub-now : tie.Need-sub-now
+sub-now c = search needs
 
 returns : tie.Need-returns
 unfolding returned
 returns c =
-    let k : length (c .before .before .before .before .args .t1 .calls) ≡ 4 = search needs in
+    let k : length (c .before .before .before .before .before .args .self .now .calls) ≡ 4 = search needs in
     rw (shift-out {A = ℕ} 0 0 _ k)
 
 pub back-spec : {M : Type 1} → statement M
@@ -36,5 +36,5 @@ back-spec =
     element-copy-out-b
     element-copy-out-c
     element-copy-out-d
-    sub-self
+    sub-now
     returns)

@@ -1,7 +1,7 @@
 use mathlib.Core.Path.{sym}
 use borrow.Author.Needs.{needs}
-use Rattle.engine.proofs.machine.bitmap_event.Statement.{statement}
-use Rattle.engine.proofs.machine.bitmap_event.Tie as tie
+use Rattle.engine.proofs.vertex.bitmap_event.Statement.{statement}
+use Rattle.engine.proofs.vertex.bitmap_event.Tie as tie
 
 judge-requires : tie.Need-judge-requires
 judge-requires c κs = search needs
