@@ -2,7 +2,7 @@
 use mathlib.Core.Path.{refl}
 use mathlib.Core.List.{List}
 use mathlib.Core.Logic.{inl, inr}
-use Prim.Native.Nat.{ℕ, _%_}
+use Prim.Native.Nat.{ℕ, _%_, _<_}
 use native.Mathlib.Omega.{arith}
 use lib.Dec.{eqb, leb}
 use borrow.Author.Tests.{leb-true, leb-false, eqb-true}
@@ -16,36 +16,39 @@ use Rattle.engine.specs.declared.context.Placing.{Placing}
 use Rattle.engine.specs.declared.machine.Event.{Event}
 use Rattle.engine.specs.declared.machine.Event.the-variants as e
 use Rattle.engine.specs.declared.machine.Machine.{Machine}
-use Rattle.engine.specs.declared.machine.Then.{Then}
-use Rattle.engine.specs.declared.machine.Then.the-variants as t
+use Rattle.engine.specs.declared.command.Then.{Then}
+use Rattle.engine.specs.declared.command.Then.the-variants as t
 use Rattle.engine.specs.Changes.{withBrush, withMasks, withClearing, withPlacing}
-use Rattle.engine.specs.Machine.{Obeys, drawnFormat, drawnSize, drawnPrimitive, quietly, obeys}
+use Rattle.engine.specs.Command.{Obeys, quietly, obeys}
+use Rattle.engine.specs.Drawn.{drawnFormat, drawnSize, drawnPrimitive}
 use Rattle.engine.specs.Run.{drawingOf}
 use Rattle.invariant.specs.Actions.{Orderly}
-use Rattle.invariant.specs.State.{ValidBrush, ValidMasks, ValidClearing, ValidPlacing, ValidMachine, ValidHandles}
+use Rattle.invariant.specs.State.{ValidBrush, ValidMasks, ValidClearing, ValidPlacing, Aligned, ValidMachine, ValidHandles}
 use Rattle.invariant.proofs.Lists.{by-test}
-use Rattle.invariant.proofs.Machines.{translation-in, with-context, with-place, with-primitive, with-call, with-return}
+use Rattle.invariant.proofs.Machines.{translation-in, with-context, with-place, with-primitive}
 use Rattle.invariant.proofs.Reading.{InAll}
 use Rattle.invariant.proofs.Settings.{sourced-valid, laid-valid, sized-valid, laid-high-valid, sized-high-valid}
 
--- what an event draws is orderly, whatever the context
-abbrev pub OrderlyEvent : Event → Type 0
-OrderlyEvent e.Quiet = Unit {0}
-OrderlyEvent e.Save = Unit {0}
-OrderlyEvent e.Restore = Unit {0}
-OrderlyEvent (e.Draw shape) = (c : Context) → Orderly (drawingOf c shape)
-OrderlyEvent e.Ended = Unit {0}
-OrderlyEvent (e.Fault number) = Unit {0}
+-- what an event tells of the machine that tells it: a CALL has room and goes to a word, and a drawing is orderly, whatever the context
+abbrev pub ValidEvent : Machine → Event → Type 0
+ValidEvent m e.Quiet = Unit {0}
+ValidEvent m e.Save = Unit {0}
+ValidEvent m e.Restore = Unit {0}
+ValidEvent m (e.Call to) = (m .depth < 4) × Aligned to
+ValidEvent m e.Return = Unit {0}
+ValidEvent m (e.Draw shape) = (c : Context) → Orderly (drawingOf c shape)
+ValidEvent m e.Ended = Unit {0}
+ValidEvent m (e.Fault number) = Unit {0}
 
-abbrev pub OrderlyThen : Then → Type 0
-OrderlyThen (t.Tell event) = OrderlyEvent event
-OrderlyThen (t.Place vertex) = Unit {0}
+abbrev pub ValidThen : Machine → Then → Type 0
+ValidThen m (t.Tell event) = ValidEvent m event
+ValidThen m (t.Place vertex) = Unit {0}
 
 -- what a command leaves
 pub record ValidObeys (o : Obeys) : Type 0 where
   pub machine : ValidMachine (o .obeyed .machine)
   pub handles : ValidHandles (o .handles)
-  pub then : OrderlyThen (o .obeyed .then)
+  pub then : ValidThen (o .obeyed .machine) (o .obeyed .then)
 
 -- one row's proof before those of the other rows
 infixr 20 _and_
@@ -53,7 +56,7 @@ abbrev _and_ : {A B : Type 0} → A → B → A × B
 a and b = (a, b)
 
 module _ (m : Machine) (hs : List ℕ) (v : ValidMachine m) (k : ValidHandles hs) where
-  untouched : {then : Then} → OrderlyThen then → ValidObeys (record { obeyed = record { machine = m; then = then }; handles = hs })
+  untouched : {then : Then} → ValidThen m then → ValidObeys (record { obeyed = record { machine = m; then = then }; handles = hs })
   untouched h = record { machine = v; handles = k; then = h }
 
   handles : {changed : List ℕ} → ValidHandles changed → ValidObeys (quietly m changed)
@@ -90,7 +93,7 @@ module _ (m : Machine) (hs : List ℕ) (v : ValidMachine m) (k : ValidHandles hs
   call dest =
       by-test ValidObeys (leb 4 (m .depth)) (λ full. untouched tt)
       (λ room.
-      by-test ValidObeys (eqb (dest % 4) 0) (λ a. quiet (with-call v dest (leb-false _ _ room) (eqb-true _ _ a))) (λ a. untouched tt))
+      by-test ValidObeys (eqb (dest % 4) 0) (λ a. untouched (leb-false _ _ room, eqb-true _ _ a)) (λ a. untouched tt))
 
   jump : (dest : ℕ) → ValidObeys (obeys m hs (w.Jump dest))
   unfolding obeys
@@ -102,7 +105,7 @@ module _ (m : Machine) (hs : List ℕ) (v : ValidMachine m) (k : ValidHandles hs
 
   back : ValidObeys (obeys m hs w.Return)
   unfolding obeys
-  back = by-test ValidObeys (eqb (m .depth) 0) (λ d. untouched tt) (λ d. quiet (with-return v))
+  back = by-test ValidObeys (eqb (m .depth) 0) (λ d. untouched tt) (λ d. untouched tt)
 
   -- THE TABLE, in its order: a λ names each field's number and, where that is needed, what the field tells of it
   pub all-obeyed : InAll (λ c. ValidObeys (obeys m hs c)) rows

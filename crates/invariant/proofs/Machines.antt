@@ -10,11 +10,14 @@ use lib.ListN.{length-take, length-drop, length-append}
 use Rattle.units.specs.Units.{meantTranslation, translationAt}
 use Rattle.units.proofs.Meaning.{translation-of}
 use Rattle.engine.specs.declared.context.Context.{Context}
-use Rattle.engine.specs.declared.machine.Corner.{Corner}
+use Rattle.engine.specs.declared.kept.Engine.{Engine}
 use Rattle.engine.specs.declared.machine.Machine.{Machine}
+use Rattle.engine.specs.declared.vertex.Corner.{Corner}
 use Rattle.engine.specs.Changes.{withContext, withPlace, withCorner}
+use Rattle.engine.specs.Command.{beginning}
 use Rattle.engine.specs.Context.{starting}
-use Rattle.engine.specs.Machine.{called, returned, beginning, drawnPrimitive}
+use Rattle.engine.specs.Drawn.{drawnPrimitive}
+use Rattle.engine.specs.Kept.{called, returned}
 use Rattle.invariant.specs.State.{InBits, ValidContext, Aligned, ValidMachine}
 use Rattle.invariant.proofs.Bits.{field-most}
 use Rattle.invariant.proofs.Lists.{each-take, each-moved, each-at}
@@ -39,23 +42,25 @@ module _ {m : Machine} (v : ValidMachine m) where
   pub with-primitive : (primitive : ℕ) → (primitive ≡ 0) ⊎ (drawnPrimitive primitive ≡ true) → ValidMachine (beginning m primitive)
   with-primitive primitive h = search
 
-  pub with-call : (to : ℕ) → m .depth < 4 → Aligned to → ValidMachine (called m to)
+-- CALL and RETURN, of an engine's machine
+module _ (x : Engine) (v : ValidMachine (x .now)) where
+  pub with-call : (to : ℕ) → x .now .depth < 4 → Aligned to → ValidMachine (called x to .now)
   unfolding called
   with-call to l h = record {
     context = v .context;
     place = h;
-    returns = each-take Aligned 4 (m .at ∷ m .calls) (v .place, v .returns);
+    returns = each-take Aligned 4 (x .now .at ∷ x .now .calls) (v .place, v .returns);
     calls = simp length-take (omega arith);
     depth = omega arith;
     primitive = v .primitive;
   }
 
-  pub with-return : ValidMachine (returned m)
+  pub with-return : ValidMachine (returned x .now)
   unfolding returned
   with-return = record {
     context = v .context;
-    place = each-at Aligned (m .calls) 0 0 refl (v .returns);
-    returns = each-moved Aligned (m .calls) 0 refl (v .returns);
+    place = each-at Aligned (x .now .calls) 0 0 refl (v .returns);
+    returns = each-moved Aligned (x .now .calls) 0 refl (v .returns);
     calls = simp (length-append, length-drop) (omega arith);
     depth = omega arith;
     primitive = v .primitive;

@@ -10,7 +10,7 @@ use Rattle.truth.proofs.Bools.{either-true}
 use Rattle.action.specs.Numbers.{formatNumber, formatOf}
 use Rattle.action.proofs.Naming.{test-number, stencil-action-number, factor-number, format-number}
 use Rattle.engine.specs.declared.context.Brush.{Brush}
-use Rattle.engine.specs.Machine.{drawnFormat}
+use Rattle.engine.specs.Drawn.{drawnFormat}
 use Rattle.invariant.specs.Numbers.{NamedBrush, NumbersMeant}
 use Rattle.invariant.specs.State.{ValidBrush}
 use Rattle.invariant.proofs.Vertices.{vertices-meant}

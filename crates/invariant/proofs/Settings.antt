@@ -5,8 +5,8 @@ use mathlib.Core.List.{List}
 use Prim.Native.Nat.{ℕ, _<_}
 use native.Mathlib.Omega.{arith}
 use lib.ListN.{length-set, length-replicate, replicate, getD-replicate}
+use Rattle.engine.specs.Drawn.{drawnFormat}
 use Rattle.engine.specs.Handles.{settings, place, put, handleAt, sourced, laidOut, sized, laidOutHigh, sizedHigh}
-use Rattle.engine.specs.Machine.{drawnFormat}
 use Rattle.invariant.specs.State.{ValidHandles}
 use Rattle.invariant.proofs.Lists.{set-at}
 

@@ -10,50 +10,52 @@ use Rattle.action.proofs.Corners.{corners-in-order}
 use Rattle.engine.specs.declared.context.Context.{Context}
 use Rattle.engine.specs.declared.handles.Judged.{Judged}
 use Rattle.engine.specs.declared.handles.Judged.the-variants as j
-use Rattle.engine.specs.declared.handles.Vertex.{Vertex}
+use Rattle.engine.specs.declared.vertex.Vertex.{Vertex}
 use Rattle.engine.specs.declared.kept.Engine.{Engine}
 use Rattle.engine.specs.declared.kept.Kept.{Kept}
-use Rattle.engine.specs.declared.machine.Corner.{Corner}
+use Rattle.engine.specs.declared.vertex.Corner.{Corner}
 use Rattle.engine.specs.declared.machine.Event.{Event}
 use Rattle.engine.specs.declared.machine.Event.the-variants as e
 use Rattle.engine.specs.declared.machine.Machine.{Machine}
 use Rattle.engine.specs.declared.machine.Stepped.{Stepped}
-use Rattle.engine.specs.declared.machine.Then.{Then}
-use Rattle.engine.specs.declared.machine.Then.the-variants as t
+use Rattle.engine.specs.declared.command.Then.{Then}
+use Rattle.engine.specs.declared.command.Then.the-variants as t
+use Rattle.engine.specs.Command.{obeys}
 use Rattle.engine.specs.Context.{starting}
 use Rattle.engine.specs.Handles.{handleAt, judged}
-use Rattle.engine.specs.Kept.{keptWith, newest, dropped, pushed, popped}
-use Rattle.engine.specs.Machine.{bitmapped, segmented, closed, openedAt, linked, cornered, vertexed, obeys, Steps, follows, stepsBy, steps}
+use Rattle.engine.specs.Kept.{keptWith, newest, dropped, pushed, popped, called, returned}
+use Rattle.engine.specs.Machine.{Steps, follows, stepsBy, steps}
 use Rattle.engine.specs.Run.{drawingOf, State, placeOf, stepOf, eventOf, settled, nextOf}
+use Rattle.engine.specs.Vertex.{bitmapped, segmented, closed, openedAt, linked, cornered, vertexed}
 use Rattle.engine.proofs.Saves.{kept-as-said}
 use Rattle.invariant.specs.Each.{Each}
 use Rattle.invariant.specs.State.{ValidContext, ValidMachine, ValidHandles, Valid}
-use Rattle.invariant.proofs.Commands.{OrderlyEvent, OrderlyThen, ValidObeys, all-obeyed}
+use Rattle.invariant.proofs.Commands.{ValidEvent, ValidThen, ValidObeys, all-obeyed}
 use Rattle.invariant.proofs.Lists.{by-test, each-set, each-moved, each-at}
-use Rattle.invariant.proofs.Machines.{starting-valid, with-context, with-place, with-corner}
+use Rattle.invariant.proofs.Machines.{starting-valid, with-context, with-place, with-corner, with-call, with-return}
 use Rattle.invariant.proofs.Reading.{read-cases}
 
 -- what a word leaves, but for the handles
 pub record ValidStepped (s : Stepped) : Type 0 where
   pub machine : ValidMachine (s .machine)
-  pub event : OrderlyEvent (s .event)
+  pub event : ValidEvent (s .machine) (s .event)
 
 -- WHAT A VERTEX DRAWS
-segment-orderly : (d : Segment) → OrderlyEvent (segmented d)
+segment-orderly : (m : Machine) (d : Segment) → ValidEvent m (segmented d)
 unfolding segmented drawingOf
-segment-orderly d = by-test OrderlyEvent (shortEnds d) (λ short c. short) (λ long. tt)
+segment-orderly m d = by-test (ValidEvent m) (shortEnds d) (λ short c. short) (λ long. tt)
 
-bitmap-orderly : (answer : Judged) → OrderlyEvent (bitmapped answer)
+bitmap-orderly : (m : Machine) (answer : Judged) → ValidEvent m (bitmapped answer)
 unfolding drawingOf
-bitmap-orderly (j.Drawable b) = λ c. tt
-bitmap-orderly j.Undrawable = tt
+bitmap-orderly m (j.Drawable b) = λ c. tt
+bitmap-orderly m j.Undrawable = tt
 
 -- it changes nothing but the open corner or end
 module _ (m : Machine) (valid : ValidMachine m) where
   end-valid : (v : Vertex) (next : Corner) → ValidStepped (linked m v next)
   end-valid v next =
       by-test ValidStepped (eqb (m .corner .waits) 0) (λ w. record { machine = with-corner valid (openedAt v); event = tt })
-      (λ w. record { machine = with-corner valid next; event = segment-orderly _ })
+      (λ w. record { machine = with-corner valid next; event = segment-orderly _ _ })
 
   corner-valid : (v : Vertex) → ValidStepped (cornered m v)
   unfolding drawingOf
@@ -64,7 +66,7 @@ module _ (m : Machine) (valid : ValidMachine m) where
   vertex-valid : (hs : List ℕ) (memory : ℕ) (v : Vertex) → ValidStepped (vertexed m hs memory v)
   unfolding vertexed drawingOf
   vertex-valid hs memory v =
-      by-test ValidStepped (eqb (m .primitive) 1) (λ p. record { machine = valid; event = bitmap-orderly (judged (handleAt hs (v .handle)) v memory) })
+      by-test ValidStepped (eqb (m .primitive) 1) (λ p. record { machine = valid; event = bitmap-orderly m (judged (handleAt hs (v .handle)) v memory) })
       (λ p. by-test ValidStepped (eqb (m .primitive) 2) (λ p. record { machine = valid; event = λ c. tt })
       (λ p. by-test ValidStepped (eqb (m .primitive) 3) (λ p. end-valid v (closed (m .corner)))
       (λ p. by-test ValidStepped (eqb (m .primitive) 4) (λ p. end-valid v (openedAt v))
@@ -76,7 +78,7 @@ pub record ValidSteps (s : Steps) : Type 0 where
   pub stepped : ValidStepped (s .stepped)
   pub handles : ValidHandles (s .handles)
 
-follows-valid : (m : Machine) (hs : List ℕ) (memory : ℕ) (then : Then) → ValidMachine m → ValidHandles hs → OrderlyThen then → ValidSteps (follows m hs memory then)
+follows-valid : (m : Machine) (hs : List ℕ) (memory : ℕ) (then : Then) → ValidMachine m → ValidHandles hs → ValidThen m then → ValidSteps (follows m hs memory then)
 follows-valid m hs memory (t.Tell event) v h f = record { stepped = record { machine = v; event = f }; handles = h }
 follows-valid m hs memory (t.Place vertex) v h f = record { stepped = vertex-valid m v hs memory vertex; handles = h }
 
@@ -98,7 +100,7 @@ step-valid list memory x v =
     let p : placeOf x % 4 ≡ 0 = v .now .place in
     steps-valid _ (x .handles) memory _ (with-place (v .now) (placeOf x + 4) (omega arith)) (v .handles)
 
--- SAVES AND RESTORES
+-- SAVES, RESTORES, CALLS AND RETURNS
 kept-valid : (k : Kept) (c : Context) → Each ValidContext (k .contexts) → ValidContext c → Each ValidContext (keptWith k c .contexts)
 unfolding keptWith
 kept-valid k c v w =
@@ -116,17 +118,19 @@ record ValidEngine (x : Engine) : Type 0 where
   now : ValidMachine (x .now)
   kept : Each ValidContext (x .kept .contexts)
 
-settled-valid : (event : Event) (x : Engine) → ValidEngine x → ValidEngine (settled event x)
-unfolding pushed popped dropped
-settled-valid e.Quiet x v = v
-settled-valid e.Save x v = record { now = v .now; kept = kept-valid (x .kept) (x .now .context) (v .kept) (v .now .context) }
-settled-valid e.Restore x v = record { now = with-context (v .now) (newest-valid (x .kept) (v .kept)); kept = v .kept }
-settled-valid (e.Draw shape) x v = v
-settled-valid e.Ended x v = v
-settled-valid (e.Fault number) x v = v
+settled-valid : (event : Event) (x : Engine) → ValidEvent (x .now) event → ValidEngine x → ValidEngine (settled event x)
+unfolding pushed popped dropped called returned
+settled-valid e.Quiet x o v = v
+settled-valid e.Save x o v = record { now = v .now; kept = kept-valid (x .kept) (x .now .context) (v .kept) (v .now .context) }
+settled-valid e.Restore x o v = record { now = with-context (v .now) (newest-valid (x .kept) (v .kept)); kept = v .kept }
+settled-valid (e.Call to) x o v = record { now = with-call x (v .now) to (o .0) (o .1); kept = v .kept }
+settled-valid e.Return x o v = record { now = with-return x (v .now); kept = v .kept }
+settled-valid (e.Draw shape) x o v = v
+settled-valid e.Ended x o v = v
+settled-valid (e.Fault number) x o v = v
 
 pub next-valid : (list : List ℕ) (memory : ℕ) (x : State) → Valid x → Valid (nextOf list memory x)
 next-valid list memory x v =
     let s = step-valid list memory x v in
-    let w = settled-valid (eventOf list memory x) _ (record { now = s .stepped .machine; kept = v .kept }) in
+    let w = settled-valid (eventOf list memory x) _ (s .stepped .event) (record { now = s .stepped .machine; kept = v .kept }) in
     record { now = w .now; kept = w .kept; whole = kept-as-said .next-whole list memory x (v .whole); handles = s .handles }

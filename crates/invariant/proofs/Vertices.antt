@@ -8,7 +8,7 @@ use Rattle.units.specs.Units.{meantSixteenths, sixteenthAt, meantTranslation}
 use Rattle.units.proofs.AnyDisplacement.{by-side, times-most}
 use Rattle.units.proofs.Meaning.{sixteenth-at}
 use Rattle.engine.specs.declared.context.Placing.{Placing}
-use Rattle.engine.specs.Machine.{unitOf, placed2f, placed2ii}
+use Rattle.engine.specs.Vertex.{unitOf, placed2f, placed2ii}
 use Rattle.invariant.specs.Numbers.{MeantVertices}
 use Rattle.invariant.specs.State.{InBits, ValidPlacing}
 use Rattle.invariant.proofs.Bits.{field-most}

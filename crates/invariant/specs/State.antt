@@ -16,8 +16,8 @@ use Rattle.engine.specs.declared.context.Brush.{Brush}
 use Rattle.engine.specs.declared.context.Context.{Context}
 use Rattle.engine.specs.declared.context.Placing.{Placing}
 use Rattle.engine.specs.declared.machine.Machine.{Machine}
+use Rattle.engine.specs.Drawn.{drawnFormat, drawnPrimitive}
 use Rattle.engine.specs.Handles.{settings, handleAt}
-use Rattle.engine.specs.Machine.{drawnFormat, drawnPrimitive}
 use Rattle.engine.specs.Run.{State, nextOf, atStart, runOf}
 use Rattle.engine.specs.Saves.{Whole}
 use Rattle.invariant.specs.Each.{Each}
