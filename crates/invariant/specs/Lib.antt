@@ -1,0 +1,4 @@
+pub mod Each
+pub mod State
+pub mod Numbers
+pub mod Actions
