@@ -1,7 +1,8 @@
 -- The examples of document 01 hold, by computation. Assumes nothing.
 use mathlib.Core.Path.{refl}
-use Rattle.engine.specs.Kept.{keptWith, newest, dropped, pushed, popped}
-use Rattle.engine.specs.Machine.{called, obeys, steps}
+use Rattle.engine.specs.Kept.{called, keptWith, newest, dropped, pushed, popped}
+use Rattle.engine.specs.Command.{obeys}
+use Rattle.engine.specs.Machine.{steps}
 use Rattle.engine.specs.Run.{after, run}
 use Rattle.pixel.specs.Blend.{product, blended}
 use Rattle.runs.specs.Runs.{wordAt, bytesOf}
