@@ -13,8 +13,8 @@ use Rattle.store.specs.Store.{keptAt}
 use Rattle.paint.specs.declared.kept.Gathered.{Gathered}
 
 -- how many actions there is room for
-abbrev pub most : ℕ
-most = 1024
+abbrev pub mostKept : ℕ
+mostKept = 1024
 
 -- the first so many actions that are kept
 unfoldable pub keptUpTo : List ℕ → List ℕ → ℕ → List Action
@@ -30,7 +30,7 @@ AllBands numbers places bands count = (k : ℕ) → k < count → BandAt numbers
 
 -- the room for them
 abbrev pub Rooms : List ℕ → List ℕ → List ℕ → Type 0
-Rooms numbers places bands = (length numbers ≡ numbersEach * most) × ((length places ≡ placesEach * most) × (length bands ≡ 2 * most))
+Rooms numbers places bands = (length numbers ≡ numbersEach * mostKept) × ((length places ≡ placesEach * mostKept) × (length bands ≡ 2 * mostKept))
 
 -- an action is kept as the k-th with its band, and those before it stay
 pub record Keeps (action : Action) (k : ℕ) (numbers places bands numbers′ places′ bands′ : List ℕ) : Type 0 where
@@ -43,5 +43,5 @@ pub record Keeps (action : Action) (k : ℕ) (numbers places bands numbers′ pl
 pub record Gathers (list : List ℕ) (memory limit : ℕ) (g : Gathered) (numbers places bands : List ℕ) : Type 0 where
   pub whole : g .all ≡ true → actionsOf list memory limit ≡ keptUpTo numbers places (g .count)
   pub banded : AllBands numbers places bands (g .count)
-  pub room : g .count ≤ most
+  pub room : g .count ≤ mostKept
   pub rooms : Rooms numbers places bands

@@ -1,7 +1,7 @@
 // The drawing actions of a list, kept as numbers: a list is run once, and a row reads the actions that can reach it.
 ghost use Prim.Native.Nat.{_<_, _+_, _*_};
 ghost use Rattle.engine.specs.Run.{WithinLimits};
-ghost use Rattle.paint.specs.Actions.{Rooms, Keeps, Gathers, most};
+ghost use Rattle.paint.specs.Actions.{Rooms, Keeps, Gathers, mostKept};
 use action::Action;
 use engine::Engine;
 use engine::Find;
@@ -16,7 +16,7 @@ pub struct Gathered {
 }
 
 fn keep(action: Action, k: usize, numbers: &mut [u32], places: &mut [u64], bands: &mut [u32])
-    requires { ⌜ (k < most) × Rooms (now numbers) (now places) (now bands) ⌝ }
+    requires { ⌜ (k < mostKept) × Rooms (now numbers) (now places) (now bands) ⌝ }
     ensures { λ _. ⌜ Keeps action k (now (numbers .entry)) (now (places .entry)) (now (bands .entry)) (now (numbers .exit)) (now (places .exit)) (now (bands .exit)) ⌝ }
 {
     let rows = reach::rows_of(action);

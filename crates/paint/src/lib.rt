@@ -6,7 +6,7 @@ ghost use lib.ListN.{length};
 ghost use Rattle.engine.specs.Run.{WithinLimits, actionsOf};
 ghost use Rattle.units.specs.Units.{pixelAt, tallest, widest};
 ghost use Rattle.store.specs.Store.{keptAt};
-ghost use Rattle.paint.specs.Actions.{AllBands, BandAt, Gathers, Rooms, keptUpTo, most};
+ghost use Rattle.paint.specs.Actions.{AllBands, BandAt, Gathers, Rooms, keptUpTo, mostKept};
 ghost use Rattle.paint.specs.Picture.{coloursFrom, tagsFrom, patched, rowColours, rowTags};
 ghost use Rattle.paint.specs.Runs.{Lent, HoldRows, Drawn, DrawnAll, pixelIn};
 
@@ -34,7 +34,7 @@ fn draw_kept(
     stencil: &mut [u8],
 )
     requires { ⌜ (y < tallest) × Lent width (now picture) (now tags) (now alpha) (now stencil) ⌝ }
-    requires { ⌜ (k < most) × (Rooms (now numbers) (now places) (now bands) × BandAt (now numbers) (now places) (now bands) k) ⌝ }
+    requires { ⌜ (k < mostKept) × (Rooms (now numbers) (now places) (now bands) × BandAt (now numbers) (now places) (now bands) k) ⌝ }
     ensures { λ _. ⌜ Drawn (now (memory .entry)) (keptAt (now (numbers .entry)) (now (places .entry)) k) width (pixelAt y)
         (pixelIn (now (picture .entry)) (now (tags .entry)) (now (alpha .entry)) (now (stencil .entry)))
         (pixelIn (now (picture .exit)) (now (tags .exit)) (now (alpha .exit)) (now (stencil .exit))) ⌝ }
@@ -70,7 +70,7 @@ fn draw_all_kept(
     stencil: &mut [u8],
 )
     requires { ⌜ (y < tallest) × Lent width (now picture) (now tags) (now alpha) (now stencil) ⌝ }
-    requires { ⌜ (count ≤ most) × (Rooms (now numbers) (now places) (now bands) × AllBands (now numbers) (now places) (now bands) count) ⌝ }
+    requires { ⌜ (count ≤ mostKept) × (Rooms (now numbers) (now places) (now bands) × AllBands (now numbers) (now places) (now bands) count) ⌝ }
     ensures { λ _. ⌜ DrawnAll (now (memory .entry)) (keptUpTo (now (numbers .entry)) (now (places .entry)) count) width (pixelAt y)
         (pixelIn (now (picture .entry)) (now (tags .entry)) (now (alpha .entry)) (now (stencil .entry)))
         (pixelIn (now (picture .exit)) (now (tags .exit)) (now (alpha .exit)) (now (stencil .exit))) ⌝ }

@@ -4,7 +4,7 @@ use Rattle.engine.specs.Run.{actionsOf}
 use Rattle.paint.proofs.Folds.{keeps-bands, kept-none}
 use Rattle.paint.proofs.Going.{Gathering, joined, next-action, no-action}
 use Rattle.paint.proofs.kept.gather.Statement.{statement}
-use Rattle.paint.specs.Actions.{keptUpTo, most}
+use Rattle.paint.specs.Actions.{keptUpTo, mostKept}
 use borrow.Author.Needs.{needs}
 use mathlib.Core.Bool.{false≢true}
 use mathlib.Core.List.{List, _++_, append-nil}
@@ -14,10 +14,10 @@ use native.Mathlib.Omega.{arith}
 use Rattle.paint.proofs.kept.gather.Tie as tie
 
 abbrev Inv-loop : tie.InvT-loop
-Inv-loop list memory limit numbers₀ places₀ bands₀ handles₀ engine₀ left₀ count₀ numbers places bands handles engine left count = (count ≤ most) × Gathering list memory (actionsOf list memory limit) handles numbers places bands engine left count
+Inv-loop list memory limit numbers₀ places₀ bands₀ handles₀ engine₀ left₀ count₀ numbers places bands handles engine left count = (count ≤ mostKept) × Gathering list memory (actionsOf list memory limit) handles numbers places bands engine left count
 
 abbrev μ-loop : tie.MeasureT-loop
-μ-loop list memory limit numbers₀ places₀ bands₀ handles₀ engine₀ left₀ count₀ numbers places bands handles engine left count = most - count
+μ-loop list memory limit numbers₀ places₀ bands₀ handles₀ engine₀ left₀ count₀ numbers places bands handles engine left count = mostKept - count
 
 start-requires : tie.Need-start-requires Inv-loop μ-loop
 start-requires c κs = tt
