@@ -26,7 +26,7 @@ use Rattle.engine.specs.Handles.{settings}
 use Rattle.engine.specs.Kept.{begun, pushed, popped, called, returned}
 use Rattle.engine.specs.Machine.{Steps, steps}
 
--- THE LIMITS. 'List: 4..8,192 bytes', 'Graphics memory (RAM_G): 0..1,048,576 bytes': what is refused when a call is made never runs
+-- THE LIMITS. 'List: 4..8,192 bytes', 'Graphics memory (RAM_G): 0..1,048,576 bytes': a longer one is refused and never runs
 abbrev pub mostList : ℕ
 mostList = 8192
 
