@@ -14,27 +14,21 @@ any d e [] n h = absurd (omega arith)
 any d e (a ∷ l) zero h = refl
 any d e (a ∷ l) (suc n) h = any d e l n (omega arith)
 
-module _ {A : Type 0} (d : A) where
-  pub shift-in : (x : A) (l : List A) → length l ≡ 4 → x ∷ getD l 0 d ∷ getD l 1 d ∷ getD l 2 d ∷ [] ≡ take 4 (x ∷ l)
-  shift-in x (a ∷ b ∷ c ∷ e ∷ []) h = refl
-  shift-in x [] h = absurd (omega arith)
-  shift-in x (a ∷ []) h = absurd (omega arith)
-  shift-in x (a ∷ b ∷ []) h = absurd (omega arith)
-  shift-in x (a ∷ b ∷ c ∷ []) h = absurd (omega arith)
-  shift-in x (a ∷ b ∷ c ∷ e ∷ f ∷ l) h = absurd (omega arith)
+-- what holds of every four holds of a list of four
+pub by-four : {A : Type 0} (P : List A → Type 0) → ((a b c d : A) → P (a ∷ b ∷ c ∷ d ∷ [])) → (l : List A) → length l ≡ 4 → P l
+by-four P p (a ∷ b ∷ c ∷ d ∷ []) h = p a b c d
+by-four P p [] h = absurd (omega arith)
+by-four P p (a ∷ []) h = absurd (omega arith)
+by-four P p (a ∷ b ∷ []) h = absurd (omega arith)
+by-four P p (a ∷ b ∷ c ∷ []) h = absurd (omega arith)
+by-four P p (a ∷ b ∷ c ∷ d ∷ f ∷ l) h = absurd (omega arith)
 
-  pub shift-set : (x : A) (l : List A) → length l ≡ 4 → set (set (set (set l 0 (getD l 1 d)) 1 (getD l 2 d)) 2 (getD l 3 d)) 3 x ≡ drop 1 l ++ (x ∷ [])
-  shift-set x (a ∷ b ∷ c ∷ e ∷ []) h = refl
-  shift-set x [] h = absurd (omega arith)
-  shift-set x (a ∷ []) h = absurd (omega arith)
-  shift-set x (a ∷ b ∷ []) h = absurd (omega arith)
-  shift-set x (a ∷ b ∷ c ∷ []) h = absurd (omega arith)
-  shift-set x (a ∷ b ∷ c ∷ e ∷ f ∷ l) h = absurd (omega arith)
+module _ {A : Type 0} (d x : A) where
+  pub shift-in : (l : List A) → length l ≡ 4 → x ∷ getD l 0 d ∷ getD l 1 d ∷ getD l 2 d ∷ [] ≡ take 4 (x ∷ l)
+  shift-in = by-four (λ l. x ∷ getD l 0 d ∷ getD l 1 d ∷ getD l 2 d ∷ [] ≡ take 4 (x ∷ l)) (λ _ _ _ _. refl)
 
-  pub shift-out : (x : A) (l : List A) → length l ≡ 4 → getD l 1 d ∷ getD l 2 d ∷ getD l 3 d ∷ x ∷ [] ≡ drop 1 l ++ (x ∷ [])
-  shift-out x (a ∷ b ∷ c ∷ e ∷ []) h = refl
-  shift-out x [] h = absurd (omega arith)
-  shift-out x (a ∷ []) h = absurd (omega arith)
-  shift-out x (a ∷ b ∷ []) h = absurd (omega arith)
-  shift-out x (a ∷ b ∷ c ∷ []) h = absurd (omega arith)
-  shift-out x (a ∷ b ∷ c ∷ e ∷ f ∷ l) h = absurd (omega arith)
+  pub shift-set : (l : List A) → length l ≡ 4 → set (set (set (set l 0 (getD l 1 d)) 1 (getD l 2 d)) 2 (getD l 3 d)) 3 x ≡ drop 1 l ++ (x ∷ [])
+  shift-set = by-four (λ l. set (set (set (set l 0 (getD l 1 d)) 1 (getD l 2 d)) 2 (getD l 3 d)) 3 x ≡ drop 1 l ++ (x ∷ [])) (λ _ _ _ _. refl)
+
+  pub shift-out : (l : List A) → length l ≡ 4 → getD l 1 d ∷ getD l 2 d ∷ getD l 3 d ∷ x ∷ [] ≡ drop 1 l ++ (x ∷ [])
+  shift-out = by-four (λ l. getD l 1 d ∷ getD l 2 d ∷ getD l 3 d ∷ x ∷ [] ≡ drop 1 l ++ (x ∷ [])) (λ _ _ _ _. refl)

@@ -1,10 +1,10 @@
 -- Which bitmaps are drawn: `drawable` as facts about a handle's numbers, and `judged` by them. Assumes nothing.
 use mathlib.Core.Path.{_≡_, refl}
-use mathlib.Core.Bool.{Bool, true, false, _&&_}
+use mathlib.Core.Bool.{Bool, true, false}
 use Prim.Native.Nat.{ℕ, _+_, _*_, _%_, _<_, _≤_}
 use native.Mathlib.Nat.{mul-comm, le-mul-of-pos-right}
 use native.Mathlib.Omega.{arith}
-use lib.Dec.{eqb, ltb, leb}
+use lib.Dec.{eqb}
 use borrow.Author.Tests.{ltb-true, leb-true, eqb-true, eqb-false, lt-ltb, le-leb, eq-eqb, ne-eqb}
 use Rattle.truth.proofs.Bools.{both-true, both-made, not-so}
 use Rattle.engine.specs.Handles.{cellStart, aligned, drawable, bitmapOf, judged}
@@ -36,12 +36,12 @@ two-bytes h n a = both-true _ _ (rw (ne-eqb (h .format) 3 n) at a)
 told : (h : Handle) (cell memory : ℕ) → drawable h cell memory ≡ true → Drawn h cell memory
 unfolding drawable
 told h cell memory e =
-    let e6 = both-true _ (aligned h) e in
-    let e5 = both-true _ (leb _ memory) (e6 .0) in
-    let e4 = both-true _ (ltb 0 (h .height .0)) (e5 .0) in
-    let e3 = both-true _ (ltb 0 (h .width .0)) (e4 .0) in
-    let e2 = both-true _ (ltb 0 (h .rows)) (e3 .0) in
-    let e1 = both-true (h .given) (ltb 0 (h .stride)) (e2 .0) in
+    let e6 = both-true _ _ e in
+    let e5 = both-true _ _ (e6 .0) in
+    let e4 = both-true _ _ (e5 .0) in
+    let e3 = both-true _ _ (e4 .0) in
+    let e2 = both-true _ _ (e3 .0) in
+    let e1 = both-true _ _ (e2 .0) in
     record {
       given = e1 .0;
       stride = ltb-true 0 (h .stride) (e1 .1);
@@ -64,13 +64,4 @@ evened false {h} d e = let n = eqb-false (h .format) 3 e in rw e (both-made (eq-
 pub drawn : (h : Handle) (v : Vertex) (memory : ℕ) → Drawn h (v .cell) memory → j.Drawable (bitmapOf h v) ≡ judged h v memory
 unfolding judged drawable
 drawn h v memory d =
-    let e : drawable h (v .cell) memory ≡ true =
-    both-made (both-made (both-made (both-made (both-made (both-made (d .given)
-    (lt-ltb 0 _ (d .stride)))
-    (lt-ltb 0 _ (d .rows)))
-    (lt-ltb 0 _ (d .width)))
-    (lt-ltb 0 _ (d .height)))
-    (le-leb _ memory (d .inside)))
-    (evened _ d refl)
-    in
-    rw e
+    rw (d .given, lt-ltb _ _ (d .stride), lt-ltb _ _ (d .rows), lt-ltb _ _ (d .width), lt-ltb _ _ (d .height), le-leb _ _ (d .inside), evened _ d refl)

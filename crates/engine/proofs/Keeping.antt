@@ -1,6 +1,6 @@
 -- The kept contexts in a run: their array stays four long, and what a restore loads is the newest. Assumes nothing.
 use mathlib.Core.Path.{_≡_, refl, ap, sym, _∙_}
-use mathlib.Core.Bool.{Bool, true, false, false≢true, cond, _&&_}
+use mathlib.Core.Bool.{Bool, true, false, false≢true, cond}
 use mathlib.Core.List.{List, [], _∷_, _++_}
 use Prim.Native.Nat.{ℕ, zero, suc, _-_, _<_, _≤_}
 use native.Mathlib.Omega.{arith}
@@ -12,24 +12,14 @@ use Rattle.engine.specs.declared.kept.Kept.{Kept}
 use Rattle.engine.specs.Context.{starting}
 use Rattle.engine.specs.Kept.{keptWith, newest, dropped}
 use Rattle.engine.specs.Run.{isKept}
-use Rattle.engine.proofs.Four.{any}
+use Rattle.truth.proofs.Bools.{both-true}
+use Rattle.engine.proofs.Four.{any, by-four}
 
 pub some-kept : (n : ℕ) → isKept n ≡ true → (0 < n) × (n ≤ 4)
 unfolding isKept
-some-kept n e = go (ltb 0 n) (leb n 4) refl refl e
-  where
-    go : (a b : Bool) → ltb 0 n ≡ a → leb n 4 ≡ b → (a && b) ≡ true → (0 < n) × (n ≤ 4)
-    go true true p q e = (ltb-true 0 n p, leb-true n 4 q)
-    go true false p q e = absurd (false≢true e)
-    go false b p q e = absurd (false≢true e)
-
-four-shifted : (x : Context) (l : List Context) → length l ≡ 4 → length (drop 1 l ++ (x ∷ [])) ≡ 4
-four-shifted x (a ∷ b ∷ c ∷ e ∷ []) h = refl
-four-shifted x [] h = absurd (omega arith)
-four-shifted x (a ∷ []) h = absurd (omega arith)
-four-shifted x (a ∷ b ∷ []) h = absurd (omega arith)
-four-shifted x (a ∷ b ∷ c ∷ []) h = absurd (omega arith)
-four-shifted x (a ∷ b ∷ c ∷ e ∷ f ∷ l) h = absurd (omega arith)
+some-kept n e =
+    let t = both-true _ _ e in
+    (ltb-true 0 n (t .0), leb-true n 4 (t .1))
 
 pub four-kept : (k : Kept) (c : Context) → length (k .contexts) ≡ 4 → length (keptWith k c .contexts) ≡ 4
 unfolding keptWith
@@ -37,7 +27,7 @@ four-kept k c h = go (ltb (k .count) 4) refl
   where
     go : (t : Bool) → ltb (k .count) 4 ≡ t → length (keptWith k c .contexts) ≡ 4
     go true e = rw e (length-set (k .contexts) (k .count) c ∙ h)
-    go false e = rw e (four-shifted c (k .contexts) h)
+    go false e = rw e (by-four (λ l. length (drop 1 l ++ (c ∷ [])) ≡ 4) (λ _ _ _ _. refl) (k .contexts) h)
 
 pub newest-there : (k : Kept) (d : Context) → length (k .contexts) ≡ 4 → isKept (k .count) ≡ true → getD (k .contexts) (k .count - 1) d ≡ newest k
 unfolding newest

@@ -3,7 +3,7 @@ use mathlib.Core.Path.{_≡_, refl, ap, _∙_}
 use mathlib.Core.List.{List, [], _∷_}
 use Prim.Native.Nat.{ℕ, zero, suc, _+_, _≤_}
 use native.Mathlib.Omega.{arith}
-use lib.ListN.{length, take}
+use lib.ListN.{take}
 use Rattle.runs.specs.Runs.{wordAt}
 use Rattle.words.specs.Words.{readWord}
 use Rattle.words.specs.declared.reading.Read.the-variants as r
@@ -19,18 +19,10 @@ use Rattle.engine.specs.Changes.{withPlace}
 use Rattle.engine.specs.Command.{obeys}
 use Rattle.engine.specs.Machine.{Steps, stepsBy, steps}
 use Rattle.engine.specs.Run.{State, placeOf, settled, eventOf, nextOf}
+use Rattle.engine.proofs.Four.{by-four}
 use Rattle.engine.specs.Saves.{saved, Whole, Saved, Restored, afterSaves, KeptAsSaid}
 
 -- what holds of every array of four with a count of 0 to 4 holds of all that is whole
-module _ {A : Type 0} where
-  by-four : (P : List A → Type 0) → ((a b c d : A) → P (a ∷ b ∷ c ∷ d ∷ [])) → (l : List A) → length l ≡ 4 → P l
-  by-four P p (a ∷ b ∷ c ∷ d ∷ []) h = p a b c d
-  by-four P p [] h = absurd (omega arith)
-  by-four P p (a ∷ []) h = absurd (omega arith)
-  by-four P p (a ∷ b ∷ []) h = absurd (omega arith)
-  by-four P p (a ∷ b ∷ c ∷ []) h = absurd (omega arith)
-  by-four P p (a ∷ b ∷ c ∷ d ∷ f ∷ l) h = absurd (omega arith)
-
 by-count : (P : ℕ → Type 0) → P 0 → P 1 → P 2 → P 3 → P 4 → (n : ℕ) → n ≤ 4 → P n
 by-count P p0 p1 p2 p3 p4 zero h = p0
 by-count P p0 p1 p2 p3 p4 (suc zero) h = p1

@@ -19,6 +19,7 @@ use Rattle.engine.specs.Drawn.{drawnFormat, drawnSize, drawnPrimitive}
 use Rattle.engine.specs.Handles.{sourced, laidOut, sized, laidOutHigh, sizedHigh}
 use Rattle.engine.specs.Vertex.{placed2f, placed2ii, closed}
 
+-- what a command leaves: the machine, with an event to tell or a vertex to draw, and the handles' settings
 pub record Obeys : Type 0 where
   pub obeyed : Obeyed
   pub handles : List ℕ
@@ -35,6 +36,7 @@ quietly m hs = telling m hs e.Quiet
 abbrev pub faulty : Machine → List ℕ → ℕ → Obeys
 faulty m hs number = telling m hs (e.Fault number)
 
+-- 'BEGIN and END drop an open corner; END leaves no primitive begun', and of lines: 'BEGIN and END drop an open end'
 abbrev pub beginning : Machine → ℕ → Machine
 beginning m primitive =
     record { context = m .context; calls = m .calls; depth = m .depth; primitive = primitive; at = m .at; corner = closed (m .corner) }

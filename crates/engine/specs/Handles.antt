@@ -17,6 +17,7 @@ use Rattle.engine.specs.declared.handles.Judged.{Judged}
 use Rattle.engine.specs.declared.handles.Judged.the-variants as j
 use Rattle.engine.specs.declared.vertex.Vertex.{Vertex}
 
+-- how many numbers that are: sixteen times 32
 abbrev pub settings : ℕ
 settings = 512
 

@@ -1,5 +1,6 @@
--- The engine, and what SAVE_CONTEXT, RESTORE_CONTEXT, CALL and RETURN do to it. The kept contexts stand oldest first. Document 01: 'Four contexts are kept. A fifth save drops the earliest; a restore with none kept loads the
--- starting values.' That they are the list of saves with the earliest dropped is a theorem (proofs/Saves.antt).
+-- The engine, and what SAVE_CONTEXT, RESTORE_CONTEXT, CALL and RETURN do to it. Document 01: 'Four contexts are kept. A fifth save drops the
+-- earliest; a restore with none kept loads the starting values.' They stand oldest first; that they are the list of saves with the earliest
+-- dropped is a theorem (proofs/Saves.antt).
 use mathlib.Core.Bool.{cond}
 use mathlib.Core.List.{[], _∷_, _++_}
 use Prim.Native.Nat.{ℕ, _+_, _-_}

@@ -32,7 +32,7 @@ use Rattle.engine.specs.Handles.{settings}
 use Rattle.engine.specs.Kept.{begun, pushed, popped, called, returned}
 use Rattle.engine.specs.Machine.{Steps, steps}
 
--- THE LIMITS. 'List: 4..8,192 bytes', 'Graphics memory (RAM_G): 0..1,048,576 bytes'. A run takes any list and memory that are no longer than this.
+-- THE LIMITS. 'List: 4..8,192 bytes', 'Graphics memory (RAM_G): 0..1,048,576 bytes': a longer one is refused and never runs
 abbrev pub mostList : ℕ
 mostList = 8192
 

@@ -1,5 +1,5 @@
--- A vertex: where its word places it, and what it draws with the primitive that is begun. Document 01, 'Words and state', from 'BEGIN and END drop' to
--- 'then the translation is added', 'Which pixels', the rows 17 and 18 of 'Number table', and wish 1 of document 02.
+-- A vertex: where its word places it, and what it draws with the primitive that is begun. Document 01, 'Words and state', from 'A corner is placed' to
+-- 'then the translation is added', and the rows 17 and 18 of 'Number table'; wish 1 of document 02.
 use mathlib.Core.Bool.{cond}
 use mathlib.Core.List.{List}
 use Prim.Native.Nat.{ℕ, _-_, _*_, _^_}
@@ -44,16 +44,17 @@ placed2ii p x y handle cell =
       cell = cell;
     }
 
+-- a corner or an end that waits for the second one, and one that does no longer
 abbrev pub openedAt : Vertex → Corner
 openedAt v = record { x = v .x; y = v .y; waits = 1 }
 
--- 'BEGIN and END drop an open corner; END leaves no primitive begun', and of lines: 'BEGIN and END drop an open end'
 abbrev pub closed : Corner → Corner
 closed c = record { x = c .x; y = c .y; waits = 0 }
 
 abbrev pub pointed : Vertex → ℕ → Event
 pointed v size = e.Draw (s.Point (record { x = v .x; y = v .y; size = record { 0 = size } }))
 
+-- 'corners are put in order, x and y apart'
 abbrev pub rectangled : Corner → Vertex → ℕ → Event
 rectangled c v width = e.Draw (s.Rectangle (cornersInOrder (c .x) (c .y) (v .x) (v .y) (record { 0 = width })))
 

@@ -46,12 +46,13 @@ impl Machine {
     pub fn obey(mut self, handles: &mut [u32; SETTINGS], word: Word) -> Obeyed
         ensures { λ r. ⌜ (r ≡ obeys self (now (handles .entry)) word .obeyed) × (now (handles .exit) ≡ obeys self (now (handles .entry)) word .handles) ⌝ }
     {
-        let placing = self.context.placing;
-        let current = placing.handle;
+        let current = self.context.placing.handle;
+        let quiet = Then::Tell(Event::Quiet);
+        let undrawn = Then::Tell(Event::Fault(13));
         let then = match word {
-            Word::Vertex2f { x, y } => Then::Place(place2f(placing, x, y)),
+            Word::Vertex2f { x, y } => Then::Place(place2f(self.context.placing, x, y)),
             Word::Vertex2ii { x, y, handle, cell } => Then::Place(place2ii(
-                placing,
+                self.context.placing,
                 x,
                 y,
                 handle,
@@ -60,31 +61,31 @@ impl Machine {
             Word::Display => Then::Tell(Event::Ended),
             Word::BitmapSource { addr } => {
                 put_source(handles, current, addr);
-                Then::Tell(Event::Quiet)
+                quiet
             }
             Word::ClearColorRgb { red, green, blue } => {
                 self.context.clearing.red = red;
                 self.context.clearing.green = green;
                 self.context.clearing.blue = blue;
-                Then::Tell(Event::Quiet)
+                quiet
             }
             Word::Tag { s } => {
                 self.context.brush.tag = s;
-                Then::Tell(Event::Quiet)
+                quiet
             }
             Word::ColorRgb { red, green, blue } => {
                 self.context.brush.red = red;
                 self.context.brush.green = green;
                 self.context.brush.blue = blue;
-                Then::Tell(Event::Quiet)
+                quiet
             }
             Word::BitmapHandle { handle } => {
                 self.context.placing.handle = handle;
-                Then::Tell(Event::Quiet)
+                quiet
             }
             Word::Cell { cell } => {
                 self.context.placing.cell = cell;
-                Then::Tell(Event::Quiet)
+                quiet
             }
             Word::BitmapLayout {
                 format,
@@ -93,9 +94,9 @@ impl Machine {
             } => {
                 if is_drawn_format(format) {
                     put_layout(handles, current, format, linestride, height);
-                    Then::Tell(Event::Quiet)
+                    quiet
                 } else {
-                    Then::Tell(Event::Fault(13))
+                    undrawn
                 }
             }
             Word::BitmapSize {
@@ -107,15 +108,15 @@ impl Machine {
             } => {
                 if is_drawn_size(filter, wrapx, wrapy) {
                     put_size(handles, current, width, height);
-                    Then::Tell(Event::Quiet)
+                    quiet
                 } else {
-                    Then::Tell(Event::Fault(13))
+                    undrawn
                 }
             }
             Word::AlphaFunc { func, reference } => {
                 self.context.brush.alphatest = func;
                 self.context.brush.alphareference = reference;
-                Then::Tell(Event::Quiet)
+                quiet
             }
             Word::StencilFunc {
                 func,
@@ -125,65 +126,65 @@ impl Machine {
                 self.context.brush.stenciltest = func;
                 self.context.brush.stencilreference = reference;
                 self.context.brush.stencilmask = mask;
-                Then::Tell(Event::Quiet)
+                quiet
             }
             Word::BlendFunc { src, dst } => {
                 self.context.brush.source = src;
                 self.context.brush.target = dst;
-                Then::Tell(Event::Quiet)
+                quiet
             }
             Word::StencilOp { sfail, spass } => {
                 self.context.brush.fail = sfail;
                 self.context.brush.pass = spass;
-                Then::Tell(Event::Quiet)
+                quiet
             }
             Word::PointSize { size } => {
                 self.context.placing.pointsize = size;
-                Then::Tell(Event::Quiet)
+                quiet
             }
             Word::LineWidth { width } => {
                 self.context.placing.linewidth = width;
-                Then::Tell(Event::Quiet)
+                quiet
             }
             Word::ClearColorA { alpha } => {
                 self.context.clearing.alpha = alpha;
-                Then::Tell(Event::Quiet)
+                quiet
             }
             Word::ColorA { alpha } => {
                 self.context.brush.alpha = alpha;
-                Then::Tell(Event::Quiet)
+                quiet
             }
             Word::ClearStencil { s } => {
                 self.context.clearing.stencil = s;
-                Then::Tell(Event::Quiet)
+                quiet
             }
             Word::ClearTag { t } => {
                 self.context.clearing.tag = t;
-                Then::Tell(Event::Quiet)
+                quiet
             }
             Word::StencilMask { mask } => {
                 self.context.masks.stencil = mask;
-                Then::Tell(Event::Quiet)
+                quiet
             }
             Word::TagMask { mask } => {
                 self.context.masks.tag = mask;
-                Then::Tell(Event::Quiet)
+                quiet
             }
-            Word::BitmapTransformA { a: _ } => Then::Tell(Event::Fault(13)),
-            Word::BitmapTransformB { b: _ } => Then::Tell(Event::Fault(13)),
-            Word::BitmapTransformC { c: _ } => Then::Tell(Event::Fault(13)),
-            Word::BitmapTransformD { d: _ } => Then::Tell(Event::Fault(13)),
-            Word::BitmapTransformE { e: _ } => Then::Tell(Event::Fault(13)),
-            Word::BitmapTransformF { f: _ } => Then::Tell(Event::Fault(13)),
+            Word::BitmapTransformA { a: _ } => undrawn,
+            Word::BitmapTransformB { b: _ } => undrawn,
+            Word::BitmapTransformC { c: _ } => undrawn,
+            Word::BitmapTransformD { d: _ } => undrawn,
+            Word::BitmapTransformE { e: _ } => undrawn,
+            Word::BitmapTransformF { f: _ } => undrawn,
             Word::ScissorXy { x, y } => {
                 self.context.placing.left = x;
                 self.context.placing.top = y;
-                Then::Tell(Event::Quiet)
+                quiet
             }
             Word::ScissorSize { width, height } => {
                 self.context.placing.width = width;
                 self.context.placing.height = height;
-                Then::Tell(Event::Quiet)
+                quiet
             }
             Word::Call { dest } => {
                 if 4 <= self.depth {
@@ -197,7 +198,7 @@ impl Machine {
             Word::Jump { dest } => {
                 if dest % 4 == 0 {
                     self.at = dest;
-                    Then::Tell(Event::Quiet)
+                    quiet
                 } else {
                     Then::Tell(Event::Fault(16))
                 }
@@ -206,9 +207,9 @@ impl Machine {
                 if is_drawn_primitive(prim) {
                     self.primitive = prim;
                     self.corner.waits = 0;
-                    Then::Tell(Event::Quiet)
+                    quiet
                 } else {
-                    Then::Tell(Event::Fault(13))
+                    undrawn
                 }
             }
             Word::ColorMask { r, g, b, a } => {
@@ -216,12 +217,12 @@ impl Machine {
                 self.context.masks.green = g;
                 self.context.masks.blue = b;
                 self.context.masks.alpha = a;
-                Then::Tell(Event::Quiet)
+                quiet
             }
             Word::End => {
                 self.primitive = 0;
                 self.corner.waits = 0;
-                Then::Tell(Event::Quiet)
+                quiet
             }
             Word::SaveContext => Then::Tell(Event::Save),
             Word::RestoreContext => Then::Tell(Event::Restore),
@@ -232,32 +233,32 @@ impl Machine {
                     Then::Tell(Event::Return)
                 }
             }
-            Word::Macro { m: _ } => Then::Tell(Event::Fault(13)),
+            Word::Macro { m: _ } => undrawn,
             Word::Clear { c, s, t } => Then::Tell(clear_event(c, s, t)),
             Word::VertexFormat { frac } => {
                 self.context.placing.frac = frac;
-                Then::Tell(Event::Quiet)
+                quiet
             }
             Word::BitmapLayoutH { linestride, height } => {
                 put_layout_high(handles, current, linestride, height);
-                Then::Tell(Event::Quiet)
+                quiet
             }
             Word::BitmapSizeH { width, height } => {
                 put_size_high(handles, current, width, height);
-                Then::Tell(Event::Quiet)
+                quiet
             }
-            Word::PaletteSource { addr: _ } => Then::Tell(Event::Fault(13)),
+            Word::PaletteSource { addr: _ } => undrawn,
             Word::VertexTranslateX { x } => {
                 let translation = units::translate(x);
                 self.context.placing.dx = translation;
-                Then::Tell(Event::Quiet)
+                quiet
             }
             Word::VertexTranslateY { y } => {
                 let translation = units::translate(y);
                 self.context.placing.dy = translation;
-                Then::Tell(Event::Quiet)
+                quiet
             }
-            Word::Nop => Then::Tell(Event::Quiet),
+            Word::Nop => quiet,
         };
         Obeyed {
             machine: self,

@@ -16,7 +16,7 @@ pub struct Engine {
 }
 
 impl Kept {
-    // SAVE_CONTEXT. A fifth save drops the earliest. Each place is written by its own number, so that the others stay where they are.
+    // One context more; a fifth drops the earliest. Each place is written by its own number, so that the others stay where they are.
     pub fn push(mut self, context: Context) -> Kept
         ensures { λ r. ⌜ r ≡ keptWith self context ⌝ }
     {

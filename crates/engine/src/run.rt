@@ -118,7 +118,8 @@ fn is_kept(count: usize) -> bool
 }
 
 // Goes on from an engine, with so many words allowed: to the next action if `halt` is set, else to the list's end or the
-// fault. The machine and the kept contexts are held apart, since few words touch the latter: only those that do make an engine of them.
+// fault. The machine and the kept contexts are held apart, since few words touch the latter; the four that an engine's methods obey put them
+// together for that.
 pub fn advance(
     from: Engine,
     handles: &mut [u32; SETTINGS],
