@@ -35,7 +35,7 @@ Covered (d.Rectangle rectangle ink) p q = NearBox rectangle p q
 Covered (d.Bitmap bitmap ink) p q = InArea (bitmap .area) p q
 Covered (d.Segment segment ink) p q = NearSegment segment p q
 
--- what the picture is made by says just this: 'Only pixels in both frame and scissor count.'
+-- the two tests that a picture is made with tell just that: 'Only pixels in both frame and scissor count.'
 pub record CoveredAsSaid (action : Action) (p q : Pixels) : Type 0 where
   pub scissor : Tells (areaCovers (action .scissor) p q) (InArea (action .scissor) p q)
   pub drawing : Tells (covers (outlineOf (action .drawing)) p q) (Covered (action .drawing) p q)

@@ -80,8 +80,8 @@ pub record ValidContext (c : Context) : Type 0 where
   pub clearing : ValidClearing (c .clearing)
   pub placing : ValidPlacing (c .placing)
 
--- THE MACHINE. Row 16: 'CALL or JUMP target not a multiple of 4', so that every place is one and every return address; row 14: 'fifth open CALL'. Row 13
--- refuses a BEGIN that is not drawn: 17, 'vertex with no primitive begun', is told while the primitive is 0 and never of another
+-- THE MACHINE. Row 16: 'CALL or JUMP target not a multiple of 4', so that every place is one, and every return address; row 14: 'fifth open CALL'. Row
+-- 13 refuses a BEGIN that is not drawn: the primitive is drawn, or 0 while none is begun, which is what row 17 asks
 abbrev pub Aligned : ℕ → Type 0
 Aligned place = place % 4 ≡ 0
 
