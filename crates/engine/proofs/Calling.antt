@@ -1,11 +1,11 @@
 -- A call and a return are told only where the engine can take them: with fewer than four calls open, and with one at least. Assumes nothing.
-use mathlib.Core.Path.{_≡_, refl}
-use mathlib.Core.Bool.{Bool, true, false, cond}
+use mathlib.Core.Path.{_≡_}
 use mathlib.Core.List.{List}
 use Prim.Native.Nat.{ℕ, _%_, _<_}
 use native.Mathlib.Omega.{arith}
 use lib.Dec.{eqb, leb}
 use borrow.Author.Tests.{eqb-false, leb-false}
+use Rattle.truth.proofs.Bools.{by-test}
 use Rattle.action.specs.Ends.{shortEnds}
 use Rattle.words.specs.Words.{readWord}
 use Rattle.words.specs.declared.reading.Read.{Read}
@@ -49,10 +49,6 @@ ReadyBy o = ReadyThen (o .obeyed .then) (o .obeyed .machine)
 abbrev pub ReadyStep : Stepped → Type 0
 ReadyStep s = Ready (s .event) (s .machine)
 
-choose : {A : Type 0} (P : A → Type 0) (b : Bool) {x y : A} → (b ≡ true → P x) → (b ≡ false → P y) → P (cond b x y)
-choose P true f g = f refl
-choose P false f g = g refl
-
 obeyed-ready : (m : Machine) (hs : List ℕ) (word : Word) → ReadyBy (obeys m hs word)
 unfolding obeys
 obeyed-ready m hs (v.Vertex2f x y) = tt
@@ -64,8 +60,8 @@ obeyed-ready m hs (v.Tag s) = tt
 obeyed-ready m hs (v.ColorRgb red green blue) = tt
 obeyed-ready m hs (v.BitmapHandle handle) = tt
 obeyed-ready m hs (v.Cell cell) = tt
-obeyed-ready m hs (v.BitmapLayout format linestride height) = choose ReadyBy (drawnFormat format) (λ _. tt) (λ _. tt)
-obeyed-ready m hs (v.BitmapSize filter wrapx wrapy width height) = choose ReadyBy (drawnSize filter wrapx wrapy) (λ _. tt) (λ _. tt)
+obeyed-ready m hs (v.BitmapLayout format linestride height) = by-test ReadyBy (drawnFormat format) (λ _. tt) (λ _. tt)
+obeyed-ready m hs (v.BitmapSize filter wrapx wrapy width height) = by-test ReadyBy (drawnSize filter wrapx wrapy) (λ _. tt) (λ _. tt)
 obeyed-ready m hs (v.AlphaFunc func reference) = tt
 obeyed-ready m hs (v.StencilFunc func reference mask) = tt
 obeyed-ready m hs (v.BlendFunc src dst) = tt
@@ -86,14 +82,14 @@ obeyed-ready m hs (v.BitmapTransformE e) = tt
 obeyed-ready m hs (v.BitmapTransformF f) = tt
 obeyed-ready m hs (v.ScissorXy x y) = tt
 obeyed-ready m hs (v.ScissorSize width height) = tt
-obeyed-ready m hs (v.Call dest) = choose ReadyBy (leb 4 (m .depth)) (λ _. tt) (λ few. choose ReadyBy (eqb (dest % 4) 0) (λ _. leb-false 4 (m .depth) few) (λ _. tt))
-obeyed-ready m hs (v.Jump dest) = choose ReadyBy (eqb (dest % 4) 0) (λ _. tt) (λ _. tt)
-obeyed-ready m hs (v.Begin prim) = choose ReadyBy (drawnPrimitive prim) (λ _. tt) (λ _. tt)
+obeyed-ready m hs (v.Call dest) = by-test ReadyBy (leb 4 (m .depth)) (λ _. tt) (λ few. by-test ReadyBy (eqb (dest % 4) 0) (λ _. leb-false 4 (m .depth) few) (λ _. tt))
+obeyed-ready m hs (v.Jump dest) = by-test ReadyBy (eqb (dest % 4) 0) (λ _. tt) (λ _. tt)
+obeyed-ready m hs (v.Begin prim) = by-test ReadyBy (drawnPrimitive prim) (λ _. tt) (λ _. tt)
 obeyed-ready m hs (v.ColorMask r g b a) = tt
 obeyed-ready m hs v.End = tt
 obeyed-ready m hs v.SaveContext = tt
 obeyed-ready m hs v.RestoreContext = tt
-obeyed-ready m hs v.Return = choose ReadyBy (eqb (m .depth) 0) (λ _. tt) (λ some. omega (arith, eqb-false (m .depth) 0 some))
+obeyed-ready m hs v.Return = by-test ReadyBy (eqb (m .depth) 0) (λ _. tt) (λ some. omega (arith, eqb-false (m .depth) 0 some))
 obeyed-ready m hs (v.Macro m′) = tt
 obeyed-ready m hs (v.Clear c s t) = tt
 obeyed-ready m hs (v.VertexFormat frac) = tt
@@ -111,17 +107,17 @@ bitmap-ready m j.Undrawable = tt
 linked-ready : (m : Machine) (v : Vertex) (next : Corner) → ReadyStep (linked m v next)
 unfolding segmented
 linked-ready m v next =
-    choose ReadyStep (eqb (m .corner .waits) 0) (λ _. tt)
-    (λ _. choose (λ event. Ready event (withCorner m next)) (shortEnds (segmentFrom (m .corner) v (m .context .placing .linewidth) (m .primitive))) (λ _. tt) (λ _. tt))
+    by-test ReadyStep (eqb (m .corner .waits) 0) (λ _. tt)
+    (λ _. by-test (λ event. Ready event (withCorner m next)) (shortEnds (segmentFrom (m .corner) v (m .context .placing .linewidth) (m .primitive))) (λ _. tt) (λ _. tt))
 
 vertexed-ready : (m : Machine) (hs : List ℕ) (memory : ℕ) (v : Vertex) → ReadyStep (vertexed m hs memory v)
 unfolding vertexed
 vertexed-ready m hs memory v =
-    choose ReadyStep (eqb (m .primitive) 1) (λ _. bitmap-ready m (judged (handleAt hs (v .handle)) v memory))
-    (λ _. choose ReadyStep (eqb (m .primitive) 2) (λ _. tt)
-    (λ _. choose ReadyStep (eqb (m .primitive) 3) (λ _. linked-ready m v (closed (m .corner)))
-    (λ _. choose ReadyStep (eqb (m .primitive) 4) (λ _. linked-ready m v (openedAt v))
-    (λ _. choose ReadyStep (eqb (m .primitive) 9) (λ _. choose ReadyStep (eqb (m .corner .waits) 0) (λ _. tt) (λ _. tt))
+    by-test ReadyStep (eqb (m .primitive) 1) (λ _. bitmap-ready m (judged (handleAt hs (v .handle)) v memory))
+    (λ _. by-test ReadyStep (eqb (m .primitive) 2) (λ _. tt)
+    (λ _. by-test ReadyStep (eqb (m .primitive) 3) (λ _. linked-ready m v (closed (m .corner)))
+    (λ _. by-test ReadyStep (eqb (m .primitive) 4) (λ _. linked-ready m v (openedAt v))
+    (λ _. by-test ReadyStep (eqb (m .primitive) 9) (λ _. by-test ReadyStep (eqb (m .corner .waits) 0) (λ _. tt) (λ _. tt))
     (λ _. tt)))))
 
 followed-ready : (m : Machine) (hs : List ℕ) (memory : ℕ) (then : Then) → ReadyThen then m → ReadyStep (follows m hs memory then .stepped)

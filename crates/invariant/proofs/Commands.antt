@@ -6,6 +6,7 @@ use Prim.Native.Nat.{ℕ, _%_, _<_}
 use native.Mathlib.Omega.{arith}
 use lib.Dec.{eqb, leb}
 use borrow.Author.Tests.{leb-true, leb-false, eqb-true}
+use Rattle.truth.proofs.Bools.{by-test}
 use Rattle.action.specs.declared.ink.ClearValues.{ClearValues}
 use Rattle.action.specs.declared.ink.Masks.{Masks}
 use Rattle.words.specs.declared.word.Word.the-variants as w
@@ -24,9 +25,8 @@ use Rattle.engine.specs.Drawn.{drawnFormat, drawnSize, drawnPrimitive}
 use Rattle.engine.specs.Run.{drawingOf}
 use Rattle.invariant.specs.Actions.{Orderly}
 use Rattle.invariant.specs.State.{ValidBrush, ValidMasks, ValidClearing, ValidPlacing, Aligned, ValidMachine, ValidHandles}
-use Rattle.invariant.proofs.Lists.{by-test}
 use Rattle.invariant.proofs.Machines.{translation-in, with-context, with-place, with-primitive}
-use Rattle.invariant.proofs.Reading.{InAll}
+use Rattle.words.proofs.Commands.{InAll}
 use Rattle.invariant.proofs.Settings.{sourced-valid, laid-valid, sized-valid, laid-high-valid, sized-high-valid}
 
 -- what an event tells of the machine that tells it: a CALL has room and goes to a word, and a drawing is orderly, whatever the context

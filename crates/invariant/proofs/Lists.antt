@@ -1,14 +1,9 @@
--- What holds of each element of a list, after the list was changed; and what a test decides. Assumes nothing.
+-- What holds of each element of a list, after the list was changed. Assumes nothing.
 use mathlib.Core.Path.{_≡_, refl, ap}
-use mathlib.Core.Bool.{Bool, true, false, cond}
 use mathlib.Core.List.{List, [], _∷_, _++_}
 use Prim.Native.Nat.{ℕ, zero, suc}
 use lib.ListN.{getD, set, take, drop}
 use Rattle.invariant.specs.Each.{Each}
-
-pub by-test : {A : Type 0} {a b : A} (P : A → Type 0) (t : Bool) → (t ≡ true → P a) → (t ≡ false → P b) → P (cond t a b)
-by-test P true p q = p refl
-by-test P false p q = q refl
 
 module _ {A : Type 0} (P : A → Type 0) where
   pub each-set : (l : List A) (n : ℕ) (x : A) → P x → Each P l → Each P (set l n x)

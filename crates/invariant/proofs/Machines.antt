@@ -18,8 +18,9 @@ use Rattle.engine.specs.Command.{beginning}
 use Rattle.engine.specs.Context.{starting}
 use Rattle.engine.specs.Drawn.{drawnPrimitive}
 use Rattle.engine.specs.Kept.{called, returned}
-use Rattle.invariant.specs.State.{InBits, ValidContext, Aligned, ValidMachine}
-use Rattle.invariant.proofs.Bits.{field-most}
+use Rattle.words.specs.Fields.{InBits}
+use Rattle.invariant.specs.State.{ValidContext, Aligned, ValidMachine}
+use Rattle.words.proofs.Integers.{field-most}
 use Rattle.invariant.proofs.Lists.{each-take, each-moved, each-at}
 
 -- a translation of 17 bits, as it is kept

@@ -4,6 +4,7 @@ use mathlib.Core.List.{List}
 use Prim.Native.Nat.{ℕ, zero, suc}
 use lib.Dec.{ltb}
 use lib.ListN.{length}
+use Rattle.truth.proofs.Bools.{by-test}
 use Rattle.action.specs.declared.Action.{Action}
 use Rattle.engine.specs.declared.context.Context.{Context}
 use Rattle.engine.specs.declared.machine.Event.{Event}
@@ -14,7 +15,6 @@ use Rattle.invariant.specs.Actions.{Orderly}
 use Rattle.invariant.specs.Each.{Each}
 use Rattle.invariant.specs.State.{Aligned, Valid}
 use Rattle.invariant.proofs.Commands.{ValidEvent}
-use Rattle.invariant.proofs.Lists.{by-test}
 use Rattle.invariant.proofs.Steps.{step-valid, next-valid}
 
 pub record ValidRan (r : Ran) : Type 0 where

@@ -4,6 +4,7 @@ use mathlib.Core.List.{List}
 use Prim.Native.Nat.{ℕ, _+_, _-_, _%_}
 use native.Mathlib.Omega.{arith}
 use lib.Dec.{eqb, ltb}
+use Rattle.truth.proofs.Bools.{by-test}
 use Rattle.action.specs.declared.shape.Segment.{Segment}
 use Rattle.action.specs.Ends.{shortEnds}
 use Rattle.action.proofs.Corners.{corners-in-order}
@@ -31,9 +32,9 @@ use Rattle.engine.proofs.Saves.{kept-as-said}
 use Rattle.invariant.specs.Each.{Each}
 use Rattle.invariant.specs.State.{ValidContext, ValidMachine, ValidHandles, Valid}
 use Rattle.invariant.proofs.Commands.{ValidEvent, ValidThen, ValidObeys, all-obeyed}
-use Rattle.invariant.proofs.Lists.{by-test, each-set, each-moved, each-at}
+use Rattle.invariant.proofs.Lists.{each-set, each-moved, each-at}
 use Rattle.invariant.proofs.Machines.{starting-valid, with-context, with-place, with-corner, with-call, with-return}
-use Rattle.invariant.proofs.Reading.{read-cases}
+use Rattle.words.proofs.Commands.{read-cases}
 
 -- what a word leaves, but for the handles
 pub record ValidStepped (s : Stepped) : Type 0 where

@@ -10,8 +10,9 @@ use Rattle.units.proofs.Meaning.{sixteenth-at}
 use Rattle.engine.specs.declared.context.Placing.{Placing}
 use Rattle.engine.specs.Vertex.{unitOf, placed2f, placed2ii}
 use Rattle.invariant.specs.Numbers.{MeantVertices}
-use Rattle.invariant.specs.State.{InBits, ValidPlacing}
-use Rattle.invariant.proofs.Bits.{field-most}
+use Rattle.words.specs.Fields.{InBits}
+use Rattle.invariant.specs.State.{ValidPlacing}
+use Rattle.words.proofs.Integers.{field-most}
 
 -- how large a sum is
 sub-most : (a b : ℕ) → natAbs (subℕ a b) ≤ a + b

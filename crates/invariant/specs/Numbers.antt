@@ -10,7 +10,8 @@ use Rattle.engine.specs.declared.context.Brush.{Brush}
 use Rattle.engine.specs.declared.context.Placing.{Placing}
 use Rattle.engine.specs.Handles.{handleAt}
 use Rattle.engine.specs.Vertex.{unitOf, placed2f, placed2ii}
-use Rattle.invariant.specs.State.{InBits, ValidBrush, ValidPlacing, ValidHandles}
+use Rattle.words.specs.Fields.{InBits}
+use Rattle.invariant.specs.State.{ValidBrush, ValidPlacing, ValidHandles}
 
 -- each number is that of the test, the stencil action or the blend factor that is made of it: row 12 of document 01 refuses the others
 pub record NamedBrush (b : Brush) : Type 0 where

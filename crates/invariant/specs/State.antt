@@ -5,13 +5,12 @@ use mathlib.Core.Path.{_≡_}
 use mathlib.Core.Bool.{true}
 use mathlib.Core.List.{List}
 use mathlib.Core.Logic.{_⊎_}
-use Prim.Native.Nat.{ℕ, zero, suc, _/_, _%_, _^_, _≤_, _<_}
-use lib.IntN.{ℤ, pos, negℤ}
+use Prim.Native.Nat.{ℕ, zero, suc, _%_, _≤_, _<_}
 use lib.ListN.{length}
-use lib.Signed.{_≤ℤ_, _<ℤ_}
 use Rattle.units.specs.Units.{meantTranslation}
 use Rattle.action.specs.declared.ink.ClearValues.{ClearValues}
 use Rattle.action.specs.declared.ink.Masks.{Masks}
+use Rattle.words.specs.Fields.{InBits}
 use Rattle.engine.specs.declared.context.Brush.{Brush}
 use Rattle.engine.specs.declared.context.Context.{Context}
 use Rattle.engine.specs.declared.context.Placing.{Placing}
@@ -54,11 +53,6 @@ pub record ValidClearing (k : ClearValues) : Type 0 where
   pub alpha : k .alpha < 256
   pub stencil : k .stencil < 256
   pub tag : k .tag < 256
-
--- what a signed field of k bits holds: -half .. half - 1, where half is 2 ^ k / 2
-pub record InBits (k : ℕ) (z : ℤ) : Type 0 where
-  pub from : negℤ (pos (2 ^ k / 2)) ≤ℤ z
-  pub to : z <ℤ pos (2 ^ k / 2)
 
 -- Row 12: 'frac above 4, scissor width or height above 2,048'. A translation has 17 bits, signed, a point's size 13 and a line's width 12
 pub record ValidPlacing (p : Placing) : Type 0 where

@@ -1,6 +1,6 @@
 -- What answers say, alone and two together. Assumes nothing.
 use mathlib.Core.Path.{_≡_, refl, sym, _∙_}
-use mathlib.Core.Bool.{Bool, true, false, false≢true, not, _&&_, _||_}
+use mathlib.Core.Bool.{Bool, true, false, false≢true, not, cond, _&&_, _||_}
 use mathlib.Core.Logic.{_⊎_, inl, inr}
 use borrow.Author.Tests.{not-true, not-false}
 
@@ -36,6 +36,11 @@ pub and-implied : (a b : Bool) → (b ≡ true → a ≡ true) → a && b ≡ b
 and-implied a true f = rw (f refl)
 and-implied true false f = refl
 and-implied false false f = refl
+
+-- what a test decides between
+pub by-test : {A : Type 0} {a b : A} (P : A → Type 0) (t : Bool) → (t ≡ true → P a) → (t ≡ false → P b) → P (cond t a b)
+by-test P true p q = p refl
+by-test P false p q = q refl
 
 -- a function answers what a definition says: an `if !answer` that was passed, and one that was entered
 pub answered-yes : {answer said : Bool} → answer ≡ said → not answer ≡ false → said ≡ true

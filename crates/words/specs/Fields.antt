@@ -6,7 +6,8 @@ use Prim.Native.Nat.{ℕ, suc, _+_, _-_, _*_, _/_, _%_, _^_}
 use mathlib.Core.Bool.{Bool, true, false, cond, _&&_, _||_}
 use mathlib.Core.List.{List, [], _∷_}
 use lib.Dec.{ltb, leb}
-use lib.IntN.{ℤ, pos, negsuc}
+use lib.IntN.{ℤ, pos, negsuc, negℤ}
+use lib.Signed.{_≤ℤ_, _<ℤ_}
 use Rattle.words.specs.declared.field.Meaning.{Meaning}
 use Rattle.words.specs.declared.field.Meaning.the-variants.{Function, StencilAction, BlendFactor, Primitive, Format, Frac, ScissorSide}
 use Rattle.words.specs.declared.field.Field.{Field}
@@ -35,6 +36,11 @@ extended half n = cond (ltb n half) n (2 ^ 32 - (half + half) + n)
 
 unfoldable pub holdsSigned : ℕ → ℕ → Bool
 holdsSigned half n = ltb n half || leb (2 ^ 32 - half) n && ltb n (2 ^ 32)
+
+-- the same as an integer
+pub record InBits (k : ℕ) (z : ℤ) : Type 0 where
+  pub from : negℤ (pos (2 ^ k / 2)) ≤ℤ z
+  pub to : z <ℤ pos (2 ^ k / 2)
 
 -- ONE FIELD.
 

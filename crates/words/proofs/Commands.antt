@@ -8,18 +8,17 @@ use lib.Dec.{eqb}
 use lib.IntN.{ℤ}
 use borrow.Author.Tests.{ltb-true}
 use Rattle.truth.proofs.Bools.{both-true}
 use Rattle.words.specs.declared.field.Field.{Field}
 use Rattle.words.specs.declared.field.Field.the-variants.{Bits, Only, Signed}
 use Rattle.words.specs.declared.reading.Read.{Read}
 use Rattle.words.specs.declared.reading.Read.the-variants as r
 use Rattle.words.specs.declared.word.Word.{Word}
-use Rattle.words.specs.Fields.{int, meant, holds, total, values, allMean, fit}
+use Rattle.words.specs.Fields.{InBits, int, meant, holds, total, values, allMean, fit}
 use Rattle.words.specs.Table.{Row, row, Make, Found, none, some, find, rows, rowOf, apply}
 use Rattle.words.specs.Words.{command, checked, readAs, readWord}
 use Rattle.words.proofs.Digits.{fit-values}
 use Rattle.words.proofs.Table.{Sound, sound}
-use Rattle.invariant.specs.State.{InBits}
-use Rattle.invariant.proofs.Bits.{signed-in}
+use Rattle.words.proofs.Integers.{signed-in}
 
 -- P holds of the command, whatever its fields hold
 abbrev pub Always : (Word → Type 0) → (fs : List Field) → Make fs → Type 0

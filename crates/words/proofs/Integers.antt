@@ -10,8 +10,7 @@ use lib.Signed.{_≤ℤ_}
 use lib.Pow.{pow-mono}
 use borrow.Author.Tests.{ltb-true, leb-true, lt-ltb, le-ltb}
 use Rattle.truth.proofs.Bools.{both-true, either-true}
-use Rattle.words.specs.Fields.{int, holdsSigned}
-use Rattle.invariant.specs.State.{InBits}
+use Rattle.words.specs.Fields.{InBits, int, holdsSigned}
 
 from-below : (h m : ℕ) → m < h → negℤ (pos h) ≤ℤ negsuc m
 from-below zero m l = absurd (omega arith)
