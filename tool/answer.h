@@ -6,7 +6,8 @@
 
 #include "reason.h"
 
-/* Prints the answer: its number, what that means, and the word at fault if there is one. Gives the exit status. */
+/* Prints the answer, unless the order is to be quiet: its number, what that means, the word at fault if there is one,
+   and a hint if the file is something else than a list. Returns the exit status. */
 int tell_answer(FILE *out, const finished_run *run);
 
 #endif

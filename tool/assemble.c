@@ -5,9 +5,12 @@
 #include "fault.h"
 #include "file.h"
 #include "instruction.h"
+#include "kind.h"
 #include "label.h"
 #include "list.h"
+#include "message.h"
 #include "output.h"
+#include "place.h"
 #include "usage.h"
 
 /* What is found out about a text before any word is made of it, and while words are made. */
@@ -44,14 +47,14 @@ static void find_labels(assembly *a, list_text t)
 static bool judge_label(assembly *a, piece name)
 {
     if (++a->labels_met > MOST_LABELS)
-        return complain(&a->faults, "there are more than %d labels", MOST_LABELS);
+        return blame(&a->faults, "there are more than %d labels", MOST_LABELS);
     if (!is_label(name))
-        return complain(&a->faults, "'%s' is no label: a letter or _, then letters, digits and _", show(name).text);
+        return blame(&a->faults, "'%s' is not a label: use a letter or _, then letters, digits and _", show(name).text);
     const label *first = find_label(&a->labels, name);
     if (first->line != a->faults.line)
-        return complain(&a->faults, "label %s stands in line %" PRIu32 " already", show(name).text, first->line);
+        return blame(&a->faults, "label %s is in line %" PRIu32 " already", show(name).text, first->line);
     if (first->word == a->words)
-        return complain(&a->faults, "label %s stands before no word", show(name).text);
+        return blame(&a->faults, "no word follows label %s", show(name).text);
     return true;
 }
 
@@ -59,7 +62,7 @@ static bool judge_label(assembly *a, piece name)
 static bool add_word(assembly *a, uint32_t bits)
 {
     if (a->words_met == MOST_LIST_WORDS + 1)
-        return complain(&a->faults, "a list has at most %d words, and this is one more", MOST_LIST_WORDS);
+        return blame(&a->faults, "this word is one too many: a list has at most %d", MOST_LIST_WORDS);
     if (a->words_met <= MOST_LIST_WORDS)
         append_word(&a->list, bits);
     return true;
@@ -69,14 +72,19 @@ static bool assemble_instruction(assembly *a, const text_line *line)
 {
     uint32_t bits = 0;
     a->words_met++;
-    return make_word(&a->faults, &a->labels, line, &bits) && add_word(a, bits);
+    if (!make_word(&a->faults, &a->labels, line, &bits) || !add_word(a, bits))
+        return false;
+    if (line->has_bits && line->bits != bits)
+        warn(&a->faults, "warning: the bits %08" PRIX32 " beside it are not those of this command (%08" PRIX32 ").",
+             line->bits, bits);
+    return true;
 }
 
 /* Tells the first thing that is wrong with the line. */
 static bool assemble_line(assembly *a, const text_line *line)
 {
     if (line->fault != NULL)
-        return complain(&a->faults, "%s", line->fault);
+        return blame(&a->faults, "%s", line->fault);
     bool is_label_good = !line->has_label || judge_label(a, line->label);
     return is_label_good && (line->count == 0 || assemble_instruction(a, line));
 }
@@ -101,12 +109,24 @@ static bool write_list(const display_list *list, const char *name)
     return close_outputs(&file, 1, true);
 }
 
-static int tell_success(FILE *out, const order *o, const display_list *list)
+static void print_success(FILE *out, const char *output, const display_list *list)
 {
     size_t words = list->length / 4;
-    bool is_one = words == 1, is_streamed = is_standard(o->output);
-    fprintf(out, "done %zu\n%zu %s, %zu bytes, %s %s %s.\n", words, words, is_one ? "word" : "words", list->length,
-            is_one ? "is" : "are", is_streamed ? "on" : "in", is_streamed ? "standard output" : o->output);
+    fprintf(out, "done %zu\n%zu %s, %zu bytes, %s ", words, words, plural(words, "word", "words"), list->length,
+            plural(words, "is", "are"));
+    if (is_standard_output(output)) {
+        fputs("on standard output", out);
+    } else {
+        fputs("in ", out);
+        print_name(out, output);
+    }
+    fputs(".\n", out);
+}
+
+static int tell_success(const order *o, const display_list *list)
+{
+    if (!o->is_quiet)
+        print_success(stream_for_answers(o), o->output, list);
     return SUCCEEDED;
 }
 
@@ -116,18 +136,18 @@ static bool is_text_good(assembly *a, list_text t)
     assemble_lines(a, t);
     tell_rest(&a->faults);
     if (a->words == 0 && a->faults.count == 0)
-        fprintf(stderr, "jokulvisp: %s: there is no word in it\n", a->faults.name);
+        complain(a->faults.name, "there is no command in it");
     return a->words > 0 && a->faults.count == 0;
 }
 
-static bool has_text_length(const char *name, size_t length)
+/* Told before any line is, for every line of such a file is wrong. */
+static bool can_be_text(const char *name, const uint8_t *bytes, size_t length)
 {
-    if (length <= MOST_TEXT_BYTES)
-        return true;
-    fprintf(stderr, "jokulvisp: %s", spoken_name(name));
-    print_length(stderr, length, "a text has at most 1048576 bytes");
-    fputc('\n', stderr);
-    return false;
+    bool is_too_long = length > MOST_TEXT_BYTES;
+    const char *other = find_other_than_text(bytes, is_too_long ? MOST_TEXT_BYTES : length);
+    if (other != NULL)
+        return complain(name, "%s", other);
+    return !is_too_long || complain(name, "the text is longer than %d bytes", MOST_TEXT_BYTES);
 }
 
 int run_assemble(const order *o)
@@ -135,11 +155,11 @@ int run_assemble(const order *o)
     static uint8_t bytes[MOST_TEXT_BYTES];
     static assembly a;
     size_t length = 0;
+    const char *name = spoken_name(o->files[0]);
     if (!read_file(o->files[0], bytes, sizeof bytes, &length))
         return GAVE_UP;
-    a.faults.name = spoken_name(o->files[0]);
-    list_text t = { .bytes = (const char *)bytes, .length = length };
-    if (!has_text_length(o->files[0], length) || !is_text_good(&a, t))
+    a.faults = (faults){ .name = name, .is_quiet = o->is_quiet };
+    if (!can_be_text(name, bytes, length) || !is_text_good(&a, start_text((char *)bytes, length)))
         return LIST_AT_FAULT;
-    return write_list(&a.list, o->output) ? tell_success(stream_for_answers(o), o, &a.list) : GAVE_UP;
+    return write_list(&a.list, o->output) ? tell_success(o, &a.list) : GAVE_UP;
 }

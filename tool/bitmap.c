@@ -1,6 +1,6 @@
 #include "bitmap.h"
 
-enum { L8 = 3 };
+#include "jokulvisp.h"
 
 static uint64_t cell_bytes(const drawn_bitmap *b)
 {
@@ -24,7 +24,7 @@ bitmap_fault find_bitmap_fault(const drawn_bitmap *b, size_t ram_g_length)
         return NOT_SET_UP;
     if (h->stride == 0 || h->layout_height == 0 || h->width == 0 || h->height == 0)
         return OF_SIZE_0;
-    if (h->format != L8 && (h->source % 2 != 0 || h->stride % 2 != 0))
+    if (h->format != JV_FORMAT_L8 && (h->source % 2 != 0 || h->stride % 2 != 0))
         return AT_ODD_BYTES;
     return end_of_cell(b) > ram_g_length ? OUTSIDE_RAM_G : NOTHING_WRONG;
 }

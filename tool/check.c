@@ -19,5 +19,5 @@ int run_check(const order *o)
     if (input == NULL)
         return GAVE_UP;
     finished_run run = check_list(o, input);
-    return tell_answer(stdout, &run);
+    return tell_answer(stream_for_answers(o), &run);
 }

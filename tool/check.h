@@ -5,7 +5,7 @@
 #include "order.h"
 #include "reason.h"
 
-/* Gives the exit status. */
+/* Returns the exit status. */
 int run_check(const order *o);
 
 /* What jv_check says of the first list. */

@@ -5,11 +5,23 @@
 #include <stdbool.h>
 #include <stddef.h>
 
+#include "jokulvisp.h"
+
+/* A number's digits, as part of a text. */
+#define TEXT_OF(number) TEXT_OF_DIGITS(number)
+#define TEXT_OF_DIGITS(digits) #digits
+
+/* What the values of options may be, as help and messages put it. */
+#define SIZE_RANGE "1x1 to " TEXT_OF(JV_MAX_WIDTH) "x" TEXT_OF(JV_MAX_HEIGHT)
+#define LIMIT_RANGE "1 to " TEXT_OF(JV_MAX_LIMIT)
+#define TIMEOUT_RANGE "0.001 to 1000000"
+enum { MOST_TIMEOUT = 1000000000 }; /* in milliseconds */
+
 typedef struct order order;
 
 typedef struct {
     const char *name;
-    int (*run)(const order *o); /* gives the exit status */
+    int (*run)(const order *o); /* returns the exit status */
     const char *options;        /* the letters of the options that it takes */
     int files;                  /* how many it reads */
     const char *takes;          /* which files these are */

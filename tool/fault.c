@@ -1,38 +1,40 @@
 #include "fault.h"
 
 #include <inttypes.h>
-#include <stdarg.h>
-#include <stdio.h>
 
-bool complain(faults *f, const char *format, ...)
+bool blame(faults *f, const char *format, ...)
 {
-    f->count++;
-    if (f->count > MOST_FAULTS_TOLD)
-        return false;
     va_list values;
     va_start(values, format);
-    fprintf(stderr, "jokulvisp: %s:%" PRIu32 ": ", f->name, f->line);
-    vfprintf(stderr, format, values);
-    fputc('\n', stderr);
+    if (f->count++ < MOST_FAULTS_TOLD)
+        complain_of_line(f->name, f->line, format, values);
     va_end(values);
     return false;
 }
 
-void tell_rest(const faults *f)
+void warn(faults *f, const char *format, ...)
 {
-    uint32_t rest = f->count > MOST_FAULTS_TOLD ? f->count - MOST_FAULTS_TOLD : 0;
-    if (rest > 0)
-        fprintf(stderr, "jokulvisp: %s: %" PRIu32 " more %s at fault\n", f->name, rest,
-                rest == 1 ? "line is" : "lines are");
+    va_list values;
+    va_start(values, format);
+    if (!f->is_quiet && f->warnings++ < MOST_FAULTS_TOLD)
+        complain_of_line(f->name, f->line, format, values);
+    va_end(values);
 }
 
-shown_piece show(piece p)
+static void tell_rest_of(const char *name, uint32_t count, const char *one, const char *many)
 {
-    shown_piece shown;
-    const size_t room = sizeof shown.text - 1;
-    size_t length = p.length < room ? p.length : room;
-    for (size_t n = 0; n < length; n++)
-        shown.text[n] = ' ' <= p.start[n] && p.start[n] <= '~' ? p.start[n] : '?';
-    shown.text[length] = '\0';
-    return shown;
+    uint32_t rest = count > MOST_FAULTS_TOLD ? count - MOST_FAULTS_TOLD : 0;
+    if (rest > 0)
+        complain(name, "%" PRIu32 " more %s", rest, plural(rest, one, many));
+}
+
+void tell_rest(const faults *f)
+{
+    tell_rest_of(f->name, f->count, "line is wrong", "lines are wrong");
+    tell_rest_of(f->name, f->warnings, "warning", "warnings");
+}
+
+shown_bytes show(piece p)
+{
+    return show_bytes(p.start, p.length);
 }

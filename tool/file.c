@@ -3,24 +3,25 @@
 #include <errno.h>
 #include <string.h>
 
+#include "message.h"
+
 bool is_standard(const char *name)
 {
     return strcmp(name, "-") == 0;
 }
 
-const char *shown_name(const char *name)
+bool is_standard_input(const char *name)
 {
-    return name[0] != '\0' ? name : "''";
+    static const char *const names[] = { "/dev/stdin", "/dev/fd/0", "/proc/self/fd/0" };
+    for (size_t n = 0; n < sizeof names / sizeof names[0]; n++)
+        if (strcmp(name, names[n]) == 0)
+            return true;
+    return is_standard(name);
 }
 
 const char *spoken_name(const char *name)
 {
-    return is_standard(name) ? "standard input" : shown_name(name);
-}
-
-static void complain(const char *name, const char *why)
-{
-    fprintf(stderr, "jokulvisp: %s: %s\n", spoken_name(name), why);
+    return is_standard_input(name) ? "standard input" : name;
 }
 
 /* The number of bytes left in the stream, counted no further than `most`. */
@@ -41,28 +42,23 @@ static bool read_stream(FILE *stream, const char *name, uint8_t *bytes, size_t r
     *length = fread(bytes, 1, room, stream);
     if (*length == room)
         *length += count_rest(stream, MOST_COUNTED_BYTES - room);
-    if (!ferror(stream))
-        return true;
-    complain(name, errno != 0 ? strerror(errno) : "cannot be read");
-    return false;
+    return !ferror(stream) || complain(spoken_name(name), "%s", errno != 0 ? strerror(errno) : "cannot be read");
 }
 
 bool read_file(const char *name, uint8_t *bytes, size_t room, size_t *length)
 {
-    if (is_standard(name))
+    if (is_standard_input(name))
         return read_stream(stdin, name, bytes, room, length);
     FILE *stream = fopen(name, "rb");
-    if (stream == NULL) {
-        complain(name, strerror(errno));
-        return false;
-    }
+    if (stream == NULL)
+        return complain(name, "%s", strerror(errno));
     bool was_read = read_stream(stream, name, bytes, room, length);
     fclose(stream);
     return was_read;
 }
 
-void print_length(FILE *out, size_t length, const char *allowed)
+void print_length(FILE *out, size_t length)
 {
     const char *at_least = length < MOST_COUNTED_BYTES ? "" : "at least ";
-    fprintf(out, " is %s%zu bytes long; %s.", at_least, length, allowed);
+    fprintf(out, "It is %s%zu %s long.", at_least, length, plural(length, "byte", "bytes"));
 }

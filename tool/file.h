@@ -13,17 +13,17 @@ enum { MOST_COUNTED_BYTES = 1 << 24 };
 /* '-' names no file but standard input, or standard output where something is written. */
 bool is_standard(const char *name);
 
-/* A name as a message shows it: an empty one in quotes. */
-const char *shown_name(const char *name);
+/* Whether a file to read is standard input: '-', or one of the names that the system has for it, as /dev/stdin. */
+bool is_standard_input(const char *name);
 
-/* What to call a file that is read: its name, but '-' is standard input. */
+/* What messages call a file that is read: its name, or 'standard input'. */
 const char *spoken_name(const char *name);
 
-/* Reads the file of this name, '-' for standard input, as far as there is room, and gives in `length` how many bytes it
-   has, counted no further than MOST_COUNTED_BYTES. If it cannot be read, says so on standard error and gives false. */
+/* Reads the file of this name as far as there is room. Sets `length` to how many bytes it has, counted no further than
+   MOST_COUNTED_BYTES. If it cannot be read, says so on standard error and returns false. */
 bool read_file(const char *name, uint8_t *bytes, size_t room, size_t *length);
 
-/* Prints how long a file is and how long it may be, after a name for it. */
-void print_length(FILE *out, size_t length, const char *allowed);
+/* Prints 'It is LENGTH bytes long.', for a length that read_file has counted. */
+void print_length(FILE *out, size_t length);
 
 #endif

@@ -4,23 +4,21 @@
 
 #include "jokulvisp.h"
 
-enum { MOST_KEPT = 4, MOST_CALLS = 4, HANDLES = 32 };
-
 /* The part of a context that says which bitmap a vertex draws, and where it lies. */
 typedef struct {
     uint32_t handle, cell, frac;
     vertex_place translation;
 } context;
 
-static const context starting_values = { .frac = 4 };
+static const context starting_values = { .frac = JV_MAX_FRAC };
 
 typedef struct {
     context now;
-    context kept[MOST_KEPT]; /* earliest first */
+    context kept[JV_MAX_CONTEXTS]; /* earliest first */
     unsigned kept_count;
-    uint32_t calls[MOST_CALLS]; /* where each open CALL goes on, outermost first */
+    uint32_t calls[JV_MAX_CALLS]; /* where each open CALL goes on, outermost first */
     unsigned call_count;
-    bitmap_handle handles[HANDLES];
+    bitmap_handle handles[JV_HANDLES];
     vertex_place last; /* that of the last vertex */
     uint32_t next;     /* the place of the next word */
 } follower;
@@ -28,7 +26,7 @@ typedef struct {
 /* Of five contexts the earliest is lost. */
 static void save(follower *f)
 {
-    if (f->kept_count == MOST_KEPT)
+    if (f->kept_count == JV_MAX_CONTEXTS)
         memmove(&f->kept[0], &f->kept[1], --f->kept_count * sizeof f->kept[0]);
     f->kept[f->kept_count++] = f->now;
 }
@@ -41,7 +39,7 @@ static void restore(follower *f)
 
 static void call(follower *f, uint32_t target)
 {
-    if (f->call_count < MOST_CALLS)
+    if (f->call_count < JV_MAX_CALLS)
         f->calls[f->call_count++] = f->next;
     f->next = target;
 }
@@ -108,7 +106,7 @@ static void set_handle(bitmap_handle *h, jv_word word)
 /* A VERTEX2F counts in the unit of its format, a VERTEX2II in pixels. */
 static vertex_place place_of(const context *now, jv_word vertex)
 {
-    int32_t unit = vertex.command == JV_VERTEX2F ? 1 << (4 - now->frac) : 16;
+    int32_t unit = vertex.command == JV_VERTEX2F ? 1 << (JV_MAX_FRAC - now->frac) : 16;
     return (vertex_place){ (int32_t)vertex.a * unit + now->translation.x,
                            (int32_t)vertex.b * unit + now->translation.y };
 }

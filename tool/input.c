@@ -6,9 +6,11 @@ static run_input input;
 
 static bool read_lists(const order *o)
 {
-    for (int n = 0; n < o->command->files; n++)
-        if (!read_list(&input.lists[n], o->files[n]))
+    for (int n = 0; n < o->command->files; n++) {
+        display_list *list = &input.lists[n];
+        if (!read_file(o->files[n], list->bytes, sizeof list->bytes, &list->length))
             return false;
+    }
     return true;
 }
 

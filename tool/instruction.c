@@ -62,29 +62,32 @@ static bool refuse_command(faults *f, piece name)
 {
     const char *nearest = find_nearest(name);
     if (nearest == NULL)
-        return complain(f, "no such command: %s", show(name).text);
-    return complain(f, "no such command: %s; there is %s", show(name).text, nearest);
+        return blame(f, "no such command: %s", show(name).text);
+    return blame(f, "no such command: %s; did you mean %s?", show(name).text, nearest);
 }
 
 /* ---- Values ---- */
 
+static bool has_named_values(const field_names *field)
+{
+    return field->values != NULL && field->values->names != NULL;
+}
+
 static bool refuse_value(faults *f, const field_names *field, piece spelt)
 {
     char names[MOST_NAMES_TEXT];
-    if (field->values->names == NULL)
-        return complain(f, "%s %s has no meaning: 0 to %" PRIu32, field->name, show(spelt).text, field->values->most);
+    if (!has_named_values(field))
+        return blame(f, "%s %s is out of range: %" PRId64 " to %" PRId64, field->name, show(spelt).text,
+                     least_value(field), field->values != NULL ? field->values->most : largest_value(field));
     list_values(names, field->values);
-    return complain(f, "%s %s is no %s; there are %s", field->name, show(spelt).text, field->values->noun, names);
+    return blame(f, "%s %s is not a %s; use one of %s", field->name, show(spelt).text, field->values->noun, names);
 }
 
-/* Whether a number can stand in a field. */
+/* Whether a number is valid in a field. */
 static bool judge_number(faults *f, const field_names *field, piece spelt, int64_t value)
 {
     bool is_held = least_value(field) <= value && value <= largest_value(field);
-    if (field->values != NULL && !(is_held && has_meaning(field, (uint32_t)value)))
-        return refuse_value(f, field, spelt);
-    return is_held || complain(f, "%s %s does not fit: %" PRId64 " to %" PRId64, field->name, show(spelt).text,
-                               least_value(field), largest_value(field));
+    return (is_held && has_meaning(field, (uint32_t)value)) || refuse_value(f, field, spelt);
 }
 
 static bool find_value(const field_names *field, piece name, int64_t *value)
@@ -102,7 +105,7 @@ static bool take_label(faults *f, const label_table *labels, piece name, int64_t
 {
     const label *found = find_label(labels, name);
     if (found == NULL)
-        return complain(f, "there is no label %s", show(name).text);
+        return blame(f, "there is no label %s", show(name).text);
     *value = 4 * (int64_t)found->word;
     return true;
 }
@@ -111,12 +114,12 @@ static bool take_value(faults *f, const label_table *labels, const field_names *
 {
     if (read_number(spelt, value))
         return judge_number(f, field, spelt, *value);
-    if (field->values != NULL && field->values->names != NULL)
+    if (has_named_values(field))
         return find_value(field, spelt, value) || refuse_value(f, field, spelt);
     if (field->kind == TARGET && is_label(spelt))
         return take_label(f, labels, spelt, value) && judge_number(f, field, spelt, *value);
-    return complain(f, "%s '%s' is no number%s", field->name, show(spelt).text,
-                    field->kind == TARGET ? " and no label" : "");
+    return blame(f, "%s '%s' is not a number%s", field->name, show(spelt).text,
+                 field->kind == TARGET ? " or a label" : "");
 }
 
 /* ---- Fields ---- */
@@ -124,12 +127,12 @@ static bool take_value(faults *f, const label_table *labels, const field_names *
 static bool take_reserved(faults *f, given_fields *given, piece spelt)
 {
     if (given->has_reserved)
-        return complain(f, "reserved is given twice");
+        return blame(f, "reserved is given twice");
     given->has_reserved = true;
     if (!read_number(spelt, &given->reserved))
-        return complain(f, "reserved '%s' is no number", show(spelt).text);
+        return blame(f, "reserved '%s' is not a number", show(spelt).text);
     bool is_held = 0 <= given->reserved && given->reserved <= UINT32_MAX;
-    return is_held || complain(f, "reserved %s does not fit: 0 to 0xFFFFFFFF", show(spelt).text);
+    return is_held || blame(f, "reserved %s is out of range: 0 to 0xFFFFFFFF", show(spelt).text);
 }
 
 /* The number of the field of this name, or of the one past the last. */
@@ -146,9 +149,9 @@ static bool refuse_field(faults *f, const given_fields *given, const char *what)
     char fields[MOST_NAMES_TEXT];
     list_fields(fields, given, false);
     if (fields[0] == '\0')
-        return complain(f, "%s: %s has no fields", what, given->names->name);
-    return complain(f, "%s: %s has the %s %s", what, given->names->name,
-                    count_fields(given->names) == 1 ? "field" : "fields", fields);
+        return blame(f, "%s: %s has no fields", what, given->names->name);
+    return blame(f, "%s: %s has the %s %s", what, given->names->name,
+                 plural(count_fields(given->names), "field", "fields"), fields);
 }
 
 static bool take_named(faults *f, const label_table *labels, given_fields *given, piece name, piece value)
@@ -163,7 +166,7 @@ static bool take_named(faults *f, const label_table *labels, given_fields *given
         return refuse_field(f, given, what);
     }
     if (given->is_given[n])
-        return complain(f, "%s is given twice", given->names->field[n].name);
+        return blame(f, "%s is given twice", given->names->field[n].name);
     given->is_given[n] = true;
     return take_value(f, labels, &given->names->field[n], value, &given->values[n]);
 }
@@ -172,8 +175,8 @@ static bool take_unnamed(faults *f, const label_table *labels, given_fields *giv
 {
     unsigned n = given->unnamed++;
     if (n >= count_fields(given->names) && find_by_name(value) != NULL)
-        return complain(f, "%s stands behind %s: each command has a line of its own", show(value).text,
-                        given->names->name);
+        return blame(f, "%s follows %s on the same line: each command needs its own line", show(value).text,
+                     given->names->name);
     if (n >= count_fields(given->names))
         return refuse_field(f, given, "too many values");
     given->is_given[n] = true;
@@ -187,7 +190,7 @@ static bool take_field(faults *f, const label_table *labels, given_fields *given
     if (is_named ? !take_named(f, labels, given, name, value) : !take_unnamed(f, labels, given, spelt))
         return false;
     if (given->unnamed > 0 && given->has_named)
-        return complain(f, "some fields have names and some have none; it has to be all or none");
+        return blame(f, "some fields have names and some do not: give names to all of them, or to none");
     return true;
 }
 
@@ -198,8 +201,7 @@ static bool are_equals_close(faults *f, const text_line *line)
         piece name = { NULL, 1 }, value = { NULL, 1 };
         split_at_equals(line->pieces[n], &name, &value);
         if (name.length == 0 || value.length == 0)
-            return complain(f, "'%s': name and value stand close to the '=', as in red=255",
-                            show(line->pieces[n]).text);
+            return blame(f, "'%s': put no blank before or after '=', as in red=255", show(line->pieces[n]).text);
     }
     return true;
 }
@@ -221,10 +223,10 @@ static bool is_reserved_apart(faults *f, const given_fields *given)
     uint32_t reserved = (uint32_t)given->reserved;
     for (unsigned n = 0; n < count_fields(given->names); n++)
         if ((reserved & mask_of(&given->names->field[n])) != 0)
-            return complain(f, "reserved 0x%" PRIX32 " has bits of the field %s", reserved,
-                            given->names->field[n].name);
+            return blame(f, "reserved 0x%" PRIX32 " has bits of the field %s", reserved,
+                         given->names->field[n].name);
     if ((reserved & command_mask(given->names)) != 0)
-        return complain(f, "reserved 0x%" PRIX32 " has bits of the command itself", reserved);
+        return blame(f, "reserved 0x%" PRIX32 " has bits of the command itself", reserved);
     return true;
 }
 
@@ -244,7 +246,8 @@ static bool write_fields(faults *f, const given_fields *given, uint32_t *bits)
     *bits = written.bits | (uint32_t)given->reserved;
     if (written.number == JV_DONE && are_equal_words(jv_read_word(*bits), jv_read_word(written.bits)))
         return true;
-    return complain(f, "%s cannot be written so: the library gives %" PRIu32, given->names->name, written.number);
+    return blame(f, "%s cannot be written like this: the library answers %" PRIu32, given->names->name,
+                 written.number);
 }
 
 bool make_word(faults *f, const label_table *labels, const text_line *line, uint32_t *bits)

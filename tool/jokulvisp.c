@@ -5,6 +5,7 @@
 #include <string.h>
 
 #include "command.h"
+#include "message.h"
 #include "order.h"
 #include "usage.h"
 
@@ -16,33 +17,51 @@ static int run_command(const command *c, int count, char **arguments)
     return o.wants_help ? print_help_of(c) : c->run(&o);
 }
 
-static int run_alone(const char *option, int count)
+static bool asks_for_help(const char *argument)
 {
-    bool is_help = strcmp(option, "--help") == 0 || strcmp(option, "-h") == 0;
-    bool is_version = strcmp(option, "--version") == 0;
-    if (!is_help && !is_version)
-        return explain_usage(NULL, option, option[0] == '-' ? "a command has to come first" : "no such command");
+    return strcmp(argument, "help") == 0 || strcmp(argument, "--help") == 0 || strcmp(argument, "-h") == 0;
+}
+
+static bool asks_for_version(const char *argument)
+{
+    return strcmp(argument, "--version") == 0 || strcmp(argument, "-V") == 0;
+}
+
+/* The arguments are those behind the one that asks for help. */
+static int run_help(int count, char **arguments)
+{
     if (count > 1)
-        return explain_usage(NULL, option, "nothing can follow");
-    return is_help ? print_help() : print_version();
+        return explain_usage(NULL, arguments[1], "help takes at most one command");
+    if (count == 0 || asks_for_help(arguments[0]))
+        return print_help();
+    const command *c = find_command(arguments[0]);
+    return c != NULL ? print_help_of(c) : explain_usage(NULL, arguments[0], "no such command");
 }
 
 static int run(int count, char **arguments)
 {
     if (count < 1)
         return explain_usage(NULL, NULL, "no command given");
-    const command *c = find_command(arguments[0]);
-    return c != NULL ? run_command(c, count, arguments) : run_alone(arguments[0], count);
+    const char *first = arguments[0];
+    const command *c = find_command(first);
+    if (c != NULL)
+        return run_command(c, count, arguments);
+    if (asks_for_help(first))
+        return run_help(count - 1, arguments + 1);
+    if (asks_for_version(first))
+        return count == 1 ? print_version() : explain_usage(NULL, first, "nothing can follow");
+    return explain_usage(NULL, first, first[0] == '-' ? "the command must come first" : "no such command");
 }
 
-/* Output is buffered, so a full disk may show only here. */
+/* Output is buffered, so a full disk may show only here. A reader that has read enough is no trouble to tell about. */
 static bool is_all_written(void)
 {
     errno = 0;
     bool is_flushed = fflush(stdout) == 0;
     if (is_flushed && !ferror(stdout))
         return true;
-    fprintf(stderr, "jokulvisp: standard output: %s\n", errno != 0 ? strerror(errno) : "cannot be written");
+    if (errno != EPIPE)
+        complain("standard output", "%s", errno != 0 ? strerror(errno) : "cannot be written");
     return false;
 }
 

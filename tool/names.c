@@ -3,31 +3,74 @@
 #include "jokulvisp.h"
 
 static const char *const test_names[] = {
-    "NEVER", "LESS", "LEQUAL", "GREATER", "GEQUAL", "EQUAL", "NOTEQUAL", "ALWAYS",
+    [JV_TEST_NEVER] = "NEVER",
+    [JV_TEST_LESS] = "LESS",
+    [JV_TEST_LEQUAL] = "LEQUAL",
+    [JV_TEST_GREATER] = "GREATER",
+    [JV_TEST_GEQUAL] = "GEQUAL",
+    [JV_TEST_EQUAL] = "EQUAL",
+    [JV_TEST_NOTEQUAL] = "NOTEQUAL",
+    [JV_TEST_ALWAYS] = "ALWAYS",
 };
 
 static const char *const action_names[] = {
-    "ZERO", "KEEP", "REPLACE", "INCR", "DECR", "INVERT",
+    [JV_ACTION_ZERO] = "ZERO",
+    [JV_ACTION_KEEP] = "KEEP",
+    [JV_ACTION_REPLACE] = "REPLACE",
+    [JV_ACTION_INCR] = "INCR",
+    [JV_ACTION_DECR] = "DECR",
+    [JV_ACTION_INVERT] = "INVERT",
 };
 
 static const char *const factor_names[] = {
-    "ZERO", "ONE", "SRC_ALPHA", "DST_ALPHA", "ONE_MINUS_SRC_ALPHA", "ONE_MINUS_DST_ALPHA",
+    [JV_FACTOR_ZERO] = "ZERO",
+    [JV_FACTOR_ONE] = "ONE",
+    [JV_FACTOR_SRC_ALPHA] = "SRC_ALPHA",
+    [JV_FACTOR_DST_ALPHA] = "DST_ALPHA",
+    [JV_FACTOR_ONE_MINUS_SRC_ALPHA] = "ONE_MINUS_SRC_ALPHA",
+    [JV_FACTOR_ONE_MINUS_DST_ALPHA] = "ONE_MINUS_DST_ALPHA",
 };
 
 static const char *const primitive_names[] = {
-    NULL,           "BITMAPS",      "POINTS",       "LINES",        "LINE_STRIP",
-    "EDGE_STRIP_R", "EDGE_STRIP_L", "EDGE_STRIP_A", "EDGE_STRIP_B", "RECTS",
+    [JV_PRIMITIVE_BITMAPS] = "BITMAPS",
+    [JV_PRIMITIVE_POINTS] = "POINTS",
+    [JV_PRIMITIVE_LINES] = "LINES",
+    [JV_PRIMITIVE_LINE_STRIP] = "LINE_STRIP",
+    [JV_PRIMITIVE_EDGE_STRIP_R] = "EDGE_STRIP_R",
+    [JV_PRIMITIVE_EDGE_STRIP_L] = "EDGE_STRIP_L",
+    [JV_PRIMITIVE_EDGE_STRIP_A] = "EDGE_STRIP_A",
+    [JV_PRIMITIVE_EDGE_STRIP_B] = "EDGE_STRIP_B",
+    [JV_PRIMITIVE_RECTS] = "RECTS",
 };
 
 /* The guide's table spells the paletted formats without their last D, its text and its examples with it. */
 static const char *const format_names[] = {
-    "ARGB1555", "L1",      "L4",       "L8", "RGB332", "ARGB2",       "ARGB4",        "RGB565",    NULL,
-    "TEXT8X8",  "TEXTVGA", "BARGRAPH", NULL, NULL,     "PALETTED565", "PALETTED4444", "PALETTED8", "L2",
+    [JV_FORMAT_ARGB1555] = "ARGB1555",
+    [JV_FORMAT_L1] = "L1",
+    [JV_FORMAT_L4] = "L4",
+    [JV_FORMAT_L8] = "L8",
+    [JV_FORMAT_RGB332] = "RGB332",
+    [JV_FORMAT_ARGB2] = "ARGB2",
+    [JV_FORMAT_ARGB4] = "ARGB4",
+    [JV_FORMAT_RGB565] = "RGB565",
+    [JV_FORMAT_TEXT8X8] = "TEXT8X8",
+    [JV_FORMAT_TEXTVGA] = "TEXTVGA",
+    [JV_FORMAT_BARGRAPH] = "BARGRAPH",
+    [JV_FORMAT_PALETTED565] = "PALETTED565",
+    [JV_FORMAT_PALETTED4444] = "PALETTED4444",
+    [JV_FORMAT_PALETTED8] = "PALETTED8",
+    [JV_FORMAT_L2] = "L2",
 };
 
-static const char *const filter_names[] = { "NEAREST", "BILINEAR" };
+static const char *const filter_names[] = {
+    [JV_FILTER_NEAREST] = "NEAREST",
+    [JV_FILTER_BILINEAR] = "BILINEAR",
+};
 
-static const char *const wrap_names[] = { "BORDER", "REPEAT" };
+static const char *const wrap_names[] = {
+    [JV_WRAP_BORDER] = "BORDER",
+    [JV_WRAP_REPEAT] = "REPEAT",
+};
 
 #define NAMED(noun, names) { noun, names, sizeof(names) / sizeof((names)[0]) - 1 }
 
@@ -38,8 +81,8 @@ static const value_set primitives = NAMED("primitive", primitive_names);
 static const value_set formats = NAMED("bitmap format", format_names);
 static const value_set filters = NAMED("filter", filter_names);
 static const value_set wraps = NAMED("wrap mode", wrap_names);
-static const value_set fractions = { "vertex format", NULL, 4 };
-static const value_set scissors = { "scissor", NULL, 2048 };
+static const value_set fractions = { NULL, NULL, JV_MAX_FRAC };
+static const value_set scissors = { NULL, NULL, JV_MAX_SCISSOR };
 
 #define NUMBER(name, high, low) { name, high, low, UNSIGNED, NULL }
 #define INTEGER(name, high, low) { name, high, low, SIGNED, NULL }

@@ -9,10 +9,10 @@
 
 enum { MOST_FIELDS = 5 };
 
-/* The values that have a meaning in some field. Where they have names, value n is called names[n], and NULL stands for
-   an n without meaning; where they have none, they are the numbers up to `most`. */
+/* The values that are valid in some field. Where they have names, value n is called names[n], and NULL stands for an n
+   that is invalid; where they have none, they are the numbers up to `most`. */
 typedef struct {
-    const char *noun;
+    const char *noun; /* what each of them is; NULL where they have no names */
     const char *const *names;
     uint32_t most;
 } value_set;
@@ -24,7 +24,7 @@ typedef struct {
     const char *name;
     unsigned high, low; /* bits */
     field_kind kind;
-    const value_set *values; /* NULL where every number that the bits hold has a meaning */
+    const value_set *values; /* NULL where every number that the bits hold is valid */
 } field_names;
 
 typedef struct {
@@ -63,7 +63,7 @@ int64_t largest_value(const field_names *field);
 /* A value's name, or NULL where it has none. */
 const char *find_value_name(const field_names *field, uint32_t value);
 
-/* Whether a number that the field's bits can hold has a meaning there. */
+/* Whether a number that the field's bits can hold is valid there. */
 bool has_meaning(const field_names *field, uint32_t value);
 
 #endif

@@ -6,11 +6,13 @@
 #include <string.h>
 
 #include "file.h"
+#include "jokulvisp.h"
+#include "message.h"
 #include "place.h"
 #include "usage.h"
 
-/* More than there are options, for getopt's tables. */
-enum { MOST_OPTIONS = 16 };
+/* More than there are options, for getopt's tables, and room for what a message says. */
+enum { MOST_OPTIONS = 16, MOST_REASON = 120 };
 
 static bool refuse(const order *o, const char *what, const char *why)
 {
@@ -20,38 +22,97 @@ static bool refuse(const order *o, const char *what, const char *why)
 
 /* ---- Values ---- */
 
-/* The digits that `text` begins with, as a number, and where they end. Gives false where there are none, or where the
-   number is too large; a sign or a blank is no digit. */
+static const char *find_end_of_digits(const char *text)
+{
+    while ('0' <= *text && *text <= '9')
+        text++;
+    return text;
+}
+
+/* The number of these digits, or UINT32_MAX for a larger one. */
+static uint32_t value_of(const char *digits, const char *end)
+{
+    uint64_t value = 0;
+    for (; digits != end && value < UINT32_MAX; digits++)
+        value = 10 * value + (uint64_t)(*digits - '0');
+    return value < UINT32_MAX ? (uint32_t)value : UINT32_MAX;
+}
+
+/* Reads the digits that `text` starts with, and sets `end` to where they end. Returns false where there are none; a
+   sign or a blank is no digit. */
 static bool read_digits(const char *text, const char **end, uint32_t *number)
 {
-    uint64_t read = 0;
-    const char *digit = text;
-    for (; '0' <= *digit && *digit <= '9' && read <= UINT32_MAX; digit++)
-        read = 10 * read + (uint64_t)(*digit - '0');
-    *number = (uint32_t)read;
-    *end = digit;
-    return digit != text && read <= UINT32_MAX;
+    *end = find_end_of_digits(text);
+    *number = value_of(text, *end);
+    return *end != text;
+}
+
+static bool is_within(uint32_t least, uint32_t number, uint32_t most)
+{
+    return least <= number && number <= most;
+}
+
+static bool refuse_form(const order *o, const char *option, const char *value, const char *wanted)
+{
+    char why[MOST_REASON];
+    snprintf(why, sizeof why, "'%s' is not %s", show_bytes(value, strlen(value)).text, wanted);
+    return refuse(o, option, why);
+}
+
+static bool refuse_range(const order *o, const char *option, const char *value, const char *range)
+{
+    char why[MOST_REASON];
+    snprintf(why, sizeof why, "%s is out of range: %s", show_bytes(value, strlen(value)).text, range);
+    return refuse(o, option, why);
 }
 
 static bool take_limit(order *o, const char *text)
 {
     const char *end = NULL;
-    if (read_digits(text, &end, &o->limit) && *end == '\0')
-        return true;
-    char why[80];
-    snprintf(why, sizeof why, "'%.30s' is not a whole number from 0 to %" PRIu32, text, UINT32_MAX);
-    return refuse(o, "--limit", why);
+    if (!read_digits(text, &end, &o->limit) || *end != '\0')
+        return refuse_form(o, "--limit", text, "a whole number, as in 1000");
+    return is_within(1, o->limit, JV_MAX_LIMIT) || refuse_range(o, "--limit", text, LIMIT_RANGE);
 }
 
 static bool take_size(order *o, const char *text)
 {
     const char *end = NULL;
     bool is_read = read_digits(text, &end, &o->width) && *end == 'x' && read_digits(end + 1, &end, &o->height);
-    if (is_read && *end == '\0')
-        return true;
-    char why[80];
-    snprintf(why, sizeof why, "'%.30s' is not a width and a height, as in 800x480", text);
-    return refuse(o, "--size", why);
+    if (!is_read || *end != '\0')
+        return refuse_form(o, "--size", text, "a width and a height, as in 800x480");
+    bool is_in_range = is_within(1, o->width, JV_MAX_WIDTH) && is_within(1, o->height, JV_MAX_HEIGHT);
+    return is_in_range || refuse_range(o, "--size", text, SIZE_RANGE);
+}
+
+/* The first three digits behind the point, with zeros for those that are missing. */
+static uint32_t read_thousandths(const char *digits)
+{
+    uint32_t value = 0;
+    for (int n = 0; n < 3; n++)
+        value = 10 * value + ('0' <= *digits && *digits <= '9' ? (uint32_t)(*digits++ - '0') : 0);
+    return value;
+}
+
+/* Reads digits, with or without a point and more digits behind it. What is less than a millisecond is left out. */
+static bool read_seconds(const char *text, uint64_t *milliseconds)
+{
+    uint32_t seconds = 0;
+    const char *end = NULL;
+    if (!read_digits(text, &end, &seconds))
+        return false;
+    bool has_point = *end == '.';
+    const char *fraction = has_point ? end + 1 : end, *fraction_end = find_end_of_digits(fraction);
+    *milliseconds = UINT64_C(1000) * seconds + read_thousandths(fraction);
+    return *fraction_end == '\0' && has_point == (fraction_end != fraction);
+}
+
+static bool take_timeout(order *o, const char *text)
+{
+    uint64_t milliseconds = 0;
+    if (!read_seconds(text, &milliseconds))
+        return refuse_form(o, "--timeout", text, "a number of seconds, as in 2 or 0.5");
+    o->timeout = (uint32_t)milliseconds;
+    return (1 <= milliseconds && milliseconds <= MOST_TIMEOUT) || refuse_range(o, "--timeout", text, TIMEOUT_RANGE);
 }
 
 /* ---- Options ---- */
@@ -63,6 +124,8 @@ static bool take_option(order *o, int letter, const char *value)
         return take_size(o, value);
     case 'l':
         return take_limit(o, value);
+    case 'T':
+        return take_timeout(o, value);
     case 'g':
         o->ram_g = value;
         break;
@@ -75,6 +138,12 @@ static bool take_option(order *o, int letter, const char *value)
     case 'm':
         o->marks = value;
         break;
+    case 'q':
+        o->is_quiet = true;
+        break;
+    case 'e':
+        o->wants_exit_code = true;
+        break;
     default:
         o->wants_help = true;
     }
@@ -82,7 +151,7 @@ static bool take_option(order *o, int letter, const char *value)
 }
 
 /* What getopt_long takes to know the options of one command. The letters begin with a colon, so that a missing value is
-   told apart from an option that there is not; the names end with one that is NULL. */
+   told apart from an unknown option; the names end with one that is NULL. */
 typedef struct {
     char letters[2 * MOST_OPTIONS + 2];
     struct option names[MOST_OPTIONS + 1];
@@ -106,20 +175,17 @@ static void add_options(option_tables *tables, const command *c)
    before `optind`. */
 static bool refuse_unknown(const order *o, const char *argument)
 {
-    char what[80];
-    if (optopt != 0)
-        snprintf(what, sizeof what, "-%c", optopt);
-    else
-        snprintf(what, sizeof what, "%.*s", (int)strcspn(argument, "="), argument);
-    return refuse(o, what, "no such option");
+    const char letter[] = { '-', (char)optopt, '\0' };
+    shown_bytes name = show_bytes(argument, strcspn(argument, "="));
+    return refuse(o, optopt != 0 ? letter : name.text, "no such option");
 }
 
-static bool refuse_value(const order *o, const option_names *option)
+static bool refuse_use(const order *o, const option_names *option)
 {
-    char what[80], why[80] = "takes no value";
+    char what[MOST_REASON], why[MOST_REASON] = "takes no value";
     snprintf(what, sizeof what, "--%s", option->name);
     if (option->value != NULL)
-        snprintf(why, sizeof why, "%s has to follow", option->value);
+        snprintf(why, sizeof why, "%s must follow", option->value);
     return refuse(o, what, why);
 }
 
@@ -129,7 +195,7 @@ static bool refuse_option(const order *o, bool lacks_value, const char *argument
 {
     const option_names *known = find_option((char)optopt);
     bool is_known = known != NULL && takes_option(o->command, known->letter) && (lacks_value || known->value == NULL);
-    return is_known ? refuse_value(o, known) : refuse_unknown(o, argument);
+    return is_known ? refuse_use(o, known) : refuse_unknown(o, argument);
 }
 
 static bool take_options(order *o, int count, char **arguments)
@@ -150,19 +216,22 @@ static bool take_options(order *o, int count, char **arguments)
 
 /* ---- The whole ---- */
 
-static bool is_asked_for(const char *name)
-{
-    return name != NULL && is_standard(name);
-}
-
 static int count_standard_inputs(const order *o)
 {
-    return is_asked_for(o->files[0]) + is_asked_for(o->files[1]) + is_asked_for(o->ram_g);
+    const char *const read[] = { o->files[0], o->files[1], o->ram_g };
+    int count = 0;
+    for (int n = 0; n < 3; n++)
+        count += read[n] != NULL && is_standard_input(read[n]);
+    return count;
 }
 
 static int count_standard_outputs(const order *o)
 {
-    return is_asked_for(o->output) + is_asked_for(o->tags) + is_asked_for(o->marks);
+    const char *const written[] = { o->output, o->tags, o->marks };
+    int count = 0;
+    for (int n = 0; n < 3; n++)
+        count += written[n] != NULL && is_standard_output(written[n]);
+    return count;
 }
 
 static bool take_files(order *o, int count, char **arguments)
@@ -189,9 +258,9 @@ static bool are_places_apart(const order *o)
     const char *const read[] = { o->files[0], o->files[1], o->ram_g };
     for (int n = 0; n < 3; n++) {
         if (is_among(written[n], written, n))
-            return refuse(o, written[n], "two files cannot go to one place");
+            return refuse(o, written[n], "two files cannot go to the same place");
         if (is_among(written[n], read, 3))
-            return refuse(o, written[n], "it is read, and would be written over");
+            return refuse(o, written[n], "this file is read, and would be overwritten");
     }
     return true;
 }
@@ -199,7 +268,7 @@ static bool are_places_apart(const order *o)
 static bool is_complete(const order *o)
 {
     if (takes_option(o->command, 'o') && o->output == NULL)
-        return refuse(o, NULL, "-o has to say which file to write");
+        return refuse(o, NULL, "-o must say which file to write");
     if (count_standard_inputs(o) > 1)
         return refuse(o, NULL, "only one file can come from standard input");
     if (count_standard_outputs(o) > 1)
@@ -209,7 +278,7 @@ static bool is_complete(const order *o)
 
 bool read_order(order *o, const command *c, int count, char **arguments)
 {
-    *o = (order){ .command = c, .width = 480, .height = 272, .limit = 65536 };
+    *o = (order){ .command = c, .width = 480, .height = 272, .limit = JV_MAX_LIMIT };
     if (!take_options(o, count, arguments))
         return false;
     return o->wants_help || (take_files(o, count - optind, arguments + optind) && is_complete(o));

@@ -4,9 +4,8 @@
 
 #include "file.h"
 #include "follow.h"
+#include "message.h"
 #include "word.h"
-
-enum { MOST_LIMIT = 65536, LEAST_END = -32768, LARGEST_END = 32767 };
 
 void print_number(FILE *out, jv_answer answer)
 {
@@ -28,75 +27,57 @@ bool has_word_at_fault(uint32_t number)
     return number != JV_DONE && !is_refusal(number) && number != JV_PAST_END && number != JV_LIMIT_REACHED;
 }
 
-void print_list_length(FILE *out, const display_list *list)
-{
-    print_length(out, list->length, "a list has 4 to 8192 bytes, a multiple of 4");
-}
+/* ---- Runs that do not end ---- */
 
-void print_ram_g_length(FILE *out, const run_input *input)
-{
-    print_length(out, input->ram_g_length, "RAM_G has at most 1048576 bytes");
-}
-
-/* What to do about a run that would go on past the end. A place beyond it comes from a CALL or JUMP: a run goes on word
-   by word, and returns, no further than to the end. */
-static void print_way_past_end(FILE *out, const finished_run *run)
-{
-    if (run->answer.place > run->list->length)
-        fprintf(out, "but the list has %zu bytes. A CALL or JUMP leads past its end.", run->list->length);
-    else
-        fputs("where the list ends. Either DISPLAY is missing, or a CALL, JUMP or RETURN leads to the end.", out);
-}
-
+/* A place beyond the list's end comes from a CALL or JUMP: a run goes on word by word, and returns, no further than to
+   the end. */
 static void print_past_end(FILE *out, const finished_run *run)
 {
-    fprintf(out, "no word is at fault: the run would go on at byte %" PRIu32 ", ", run->answer.place);
-    print_way_past_end(out, run);
-}
-
-static void print_way_to_limit(FILE *out, const finished_run *run)
-{
-    if (run->order->limit < MOST_LIMIT)
-        fputs("Either the list runs in a circle, or it needs a higher limit (--limit).", out);
+    uint32_t place = run->answer.place;
+    if (place > run->list->length)
+        fprintf(out, "The run would go on at offset %" PRIu32 ", but the list has %zu bytes: a CALL or JUMP leads past "
+                     "its end.", place, run->list->length);
     else
-        fputs("The list runs in a circle, or is longer than any limit allows.", out);
+        fprintf(out, "The run would go on at offset %" PRIu32 ", where the list ends: DISPLAY is missing, or a CALL, "
+                     "JUMP or RETURN leads to the end.", place);
 }
 
 static void print_limit_reached(FILE *out, const finished_run *run)
 {
-    uint32_t limit = run->order->limit, place = run->answer.place;
-    bool is_past_end = place >= run->list->length;
-    fprintf(out, "no word is at fault: %" PRIu32 " %s fetched, which is the limit, and the run would go on at byte ",
-            limit, limit == 1 ? "word is" : "words are");
-    fprintf(out, "%" PRIu32 "%s ", place, is_past_end ? "," : ".");
-    if (is_past_end)
-        print_way_past_end(out, run);
-    else
-        print_way_to_limit(out, run);
+    if (run->answer.place >= run->list->length) {
+        print_past_end(out, run);
+        return;
+    }
+    fprintf(out, "The run would go on at offset %" PRIu32 ": the list loops, or ", run->answer.place);
+    fputs(run->order->limit < JV_MAX_LIMIT ? "needs a higher limit (--limit)." : "is too long for any limit.", out);
 }
+
+/* ---- Words that are not drawn ---- */
 
 static void print_not_drawn(FILE *out, uint32_t bits)
 {
     switch (jv_read_word(bits).command) {
     case JV_BEGIN:
-        fputs("this primitive is not drawn yet. BITMAPS, POINTS, LINES, LINE_STRIP and RECTS are.", out);
+        fputs("It draws BITMAPS, POINTS, LINES, LINE_STRIP and RECTS.", out);
         break;
     case JV_BITMAP_LAYOUT:
-        fputs("bitmaps in this format are not drawn yet. Those in ARGB1555, L8 and RGB565 are.", out);
+        fputs("It draws bitmaps in the formats ARGB1555, L8 and RGB565.", out);
         break;
     case JV_BITMAP_SIZE:
-        fputs("BILINEAR and REPEAT are not drawn yet. NEAREST and BORDER are.", out);
+        fputs("It draws bitmaps with NEAREST and BORDER.", out);
         break;
     case JV_PALETTE_SOURCE:
-        fputs("bitmaps with a palette are not drawn yet.", out);
+        fputs("It draws no bitmaps with a palette.", out);
         break;
     case JV_MACRO:
-        fputs("macros are not drawn yet.", out);
+        fputs("It draws no macros.", out);
         break;
     default:
-        fputs("bitmap transforms are not drawn yet.", out);
+        fputs("It draws no transformed bitmaps.", out);
     }
 }
+
+/* ---- Bitmaps ---- */
 
 /* Prints the names whose `is_true` holds, as in 'stride, width'. */
 static void print_those(FILE *out, const char *const names[], const bool is_true[], unsigned count)
@@ -110,57 +91,69 @@ static void print_those(FILE *out, const char *const names[], const bool is_true
     }
 }
 
-static void print_not_set_up(FILE *out, const bitmap_handle *h)
+static void print_not_set_up(FILE *out, const drawn_bitmap *b)
 {
     static const char *const words[] = { "no BITMAP_SOURCE", "no BITMAP_LAYOUT", "no BITMAP_SIZE" };
-    const bool is_missing[] = { !h->has_source, !h->has_layout, !h->has_size };
-    fputs(" has had ", out);
+    const bool is_missing[] = { !b->bitmap.has_source, !b->bitmap.has_layout, !b->bitmap.has_size };
+    fprintf(out, "Before this vertex, handle %" PRIu32 " has had ", b->handle);
     print_those(out, words, is_missing, 3);
-    fputs(" before it.", out);
+    fputc('.', out);
 }
 
-static void print_size_0(FILE *out, const bitmap_handle *h)
+static void print_size_0(FILE *out, const drawn_bitmap *b)
 {
-    static const char *const sizes[] = { "linestride 0", "layout height 0", "drawn width 0", "drawn height 0" };
+    static const char *const sizes[] = { "linestride 0", "layout height 0", "width 0", "height 0" };
+    const bitmap_handle *h = &b->bitmap;
     const bool is_0[] = { h->stride == 0, h->layout_height == 0, h->width == 0, h->height == 0 };
-    fputs(" has ", out);
+    fprintf(out, "Handle %" PRIu32 " has ", b->handle);
     print_those(out, sizes, is_0, 4);
-    fputs(".", out);
+    fputc('.', out);
+}
+
+static void print_odd_bytes(FILE *out, const drawn_bitmap *b)
+{
+    fprintf(out, "Handle %" PRIu32 " has source %" PRIu32 " and linestride %" PRIu32 ". In its format both must be even.",
+            b->handle, b->bitmap.source, b->bitmap.stride);
 }
 
 static void print_outside_ram_g(FILE *out, const drawn_bitmap *b, const finished_run *run)
 {
-    fprintf(out, ", cell %" PRIu32 " lies in bytes %" PRIu64 " to %" PRIu64 " of RAM_G, which ", b->cell,
-            start_of_cell(b), end_of_cell(b) - 1);
-    if (run->order->ram_g == NULL)
-        fputs("is not given (--ram-g).", out);
+    uint64_t first = start_of_cell(b), last = end_of_cell(b) - 1;
+    size_t length = run->input->ram_g_length;
+    fprintf(out, "Cell %" PRIu32 " of handle %" PRIu32 " needs ", b->cell, b->handle);
+    if (first == last)
+        fprintf(out, "byte %" PRIu64 " of RAM_G, ", first);
     else
-        fprintf(out, "has %zu bytes.", run->input->ram_g_length);
+        fprintf(out, "bytes %" PRIu64 " to %" PRIu64 " of RAM_G, ", first, last);
+    if (run->order->ram_g == NULL)
+        fputs("which is not given (--ram-g).", out);
+    else
+        fprintf(out, "which has %zu %s.", length, plural(length, "byte", "bytes"));
 }
 
 static void print_no_bitmap(FILE *out, const finished_run *run)
 {
     drawn_bitmap b = follow_to_vertex(run->list, run->answer.place, run->answer.count).bitmap;
-    fprintf(out, "the bitmap of this vertex cannot be drawn: handle %" PRIu32, b.handle);
     switch (find_bitmap_fault(&b, run->input->ram_g_length)) {
     case NOT_SET_UP:
-        print_not_set_up(out, &b.bitmap);
+        print_not_set_up(out, &b);
         break;
     case OF_SIZE_0:
-        print_size_0(out, &b.bitmap);
+        print_size_0(out, &b);
         break;
     case AT_ODD_BYTES:
-        fprintf(out, " has source %" PRIu32 " and linestride %" PRIu32 ", and in its format both have to be even.",
-                b.bitmap.source, b.bitmap.stride);
+        print_odd_bytes(out, &b);
         break;
     default:
         print_outside_ram_g(out, &b, run);
     }
 }
 
+/* ---- Lines ---- */
+
 static bool is_within_reach(vertex_place end)
 {
-    return LEAST_END <= end.x && end.x <= LARGEST_END && LEAST_END <= end.y && end.y <= LARGEST_END;
+    return JV_MIN_END <= end.x && end.x <= JV_MAX_END && JV_MIN_END <= end.y && end.y <= JV_MAX_END;
 }
 
 static void print_far_end(FILE *out, const finished_run *run)
@@ -168,63 +161,28 @@ static void print_far_end(FILE *out, const finished_run *run)
     followed_vertex v = follow_to_vertex(run->list, run->answer.place, run->answer.count);
     bool is_first = !is_within_reach(v.before);
     vertex_place end = is_first ? v.before : v.at;
-    fprintf(out, "the %s end of this line lies at x=%" PRId32 " y=%" PRId32 ", in sixteenths of a pixel. ",
+    fprintf(out, "The %s end is at x=%" PRId32 " y=%" PRId32 ", in sixteenths of a pixel. ",
             is_first ? "first" : "second", end.x, end.y);
-    fprintf(out, "Both have to be %d to %d.", LEAST_END, LARGEST_END);
+    fprintf(out, "Both ends must be at %d to %d.", JV_MIN_END, JV_MAX_END);
 }
 
-static void print_word_fault(FILE *out, const finished_run *run)
+/* ---- The whole ---- */
+
+static void print_done(FILE *out, uint32_t count)
 {
-    uint32_t bits = word_at(run->list, run->answer.place);
-    switch (run->answer.number) {
-    case JV_NO_COMMAND:
-        fputs("there is no such command: ", out);
-        print_why_refused(out, bits);
-        fputc('.', out);
-        break;
-    case JV_NO_MEANING:
-        fputs("a value without meaning: ", out);
-        print_why_refused(out, bits);
-        fputc('.', out);
-        break;
-    case JV_NOT_DRAWN:
-        print_not_drawn(out, bits);
-        break;
-    case JV_FIFTH_CALL:
-        fputs("a CALL while four calls are open. One of them has to RETURN before it.", out);
-        break;
-    case JV_NO_CALL:
-        fputs("a RETURN while no call is open. It can only stand where a CALL leads.", out);
-        break;
-    case JV_SPLIT_TARGET:
-        fprintf(out, "byte %" PRIu32 " is the start of no word. The offset has to be a multiple of 4.",
-                jv_read_word(bits).a);
-        break;
-    case JV_NO_PRIMITIVE:
-        fputs("a vertex while no primitive is begun. BEGIN has to come before it.", out);
-        break;
-    case JV_FAR_END:
-        print_far_end(out, run);
-        break;
-    default:
-        print_no_bitmap(out, run);
-    }
+    fprintf(out, "The list draws. Its run fetched %" PRIu32 " %s, up to DISPLAY.", count,
+            plural(count, "word", "words"));
 }
 
-void print_reason(FILE *out, const finished_run *run)
+/* What is to be said of this case, beyond what the number says of all. */
+static void print_detail(FILE *out, const finished_run *run)
 {
-    const order *o = run->order;
-    uint32_t count = run->answer.count;
     switch (run->answer.number) {
-    case JV_DONE:
-        fprintf(out, "its run fetched %" PRIu32 " %s, up to DISPLAY.", count, count == 1 ? "word" : "words");
+    case JV_BAD_LIST:
+        print_length(out, run->list->length);
         break;
-    case JV_BAD_FRAME:
-        fprintf(out, "%" PRIu32 "x%" PRIu32 " is no frame: the width has to be 1 to 800, the height 1 to 600.",
-                o->width, o->height);
-        break;
-    case JV_BAD_LIMIT:
-        fprintf(out, "%" PRIu32 " is no limit: it has to be 1 to %d.", o->limit, MOST_LIMIT);
+    case JV_BAD_RAM_G:
+        print_length(out, run->input->ram_g_length);
         break;
     case JV_PAST_END:
         print_past_end(out, run);
@@ -232,7 +190,40 @@ void print_reason(FILE *out, const finished_run *run)
     case JV_LIMIT_REACHED:
         print_limit_reached(out, run);
         break;
+    case JV_NO_COMMAND:
+    case JV_NO_MEANING:
+        print_why_refused(out, word_at(run->list, run->answer.place));
+        fputc('.', out);
+        break;
+    case JV_NOT_DRAWN:
+        print_not_drawn(out, word_at(run->list, run->answer.place));
+        break;
+    case JV_FIFTH_CALL:
+        fputs("One of them must RETURN first.", out);
+        break;
+    case JV_NO_CALL:
+        fputs("Only a CALL may lead here: end the words before it with DISPLAY or JUMP.", out);
+        break;
+    case JV_SPLIT_TARGET:
+        fputs("An offset counts bytes: that of the third word is 8.", out);
+        break;
+    case JV_NO_PRIMITIVE:
+        fputs("Put BEGIN before it.", out);
+        break;
+    case JV_NO_BITMAP:
+        print_no_bitmap(out, run);
+        break;
     default:
-        print_word_fault(out, run);
+        print_far_end(out, run);
     }
+}
+
+void print_reason(FILE *out, const finished_run *run)
+{
+    if (run->answer.number == JV_DONE) {
+        print_done(out, run->answer.count);
+        return;
+    }
+    fprintf(out, "%s ", jv_number_text(run->answer.number));
+    print_detail(out, run);
 }

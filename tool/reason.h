@@ -26,12 +26,8 @@ bool is_refusal(uint32_t number);
 /* Whether a word is at fault. For the other faults the place is that of the word that would have been next. */
 bool has_word_at_fault(uint32_t number);
 
-/* Prints what follows 'the list draws:' or the place at fault: a sentence or two on one line, without a line end. No
-   refusal of a length is told here. */
+/* Prints what the number means and, where there is more to say, what it means here: a sentence or two on one line,
+   without a line end. */
 void print_reason(FILE *out, const finished_run *run);
-
-/* Prints how long a list or RAM_G is and how long it may be, after a name for it. */
-void print_list_length(FILE *out, const display_list *list);
-void print_ram_g_length(FILE *out, const run_input *input);
 
 #endif

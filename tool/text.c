@@ -101,6 +101,60 @@ bool read_number(piece p, int64_t *number)
     return has_digits(digits, base, 1);
 }
 
+/* ---- Remarks ---- */
+
+static bool starts_with(piece p, const char *wanted)
+{
+    return p.length >= strlen(wanted) && memcmp(p.start, wanted, strlen(wanted)) == 0;
+}
+
+/* The length of the remark that the rest of a text starts with, or 0 where it starts with none. It is closed unless it
+   is a C remark without an end, which takes all of the rest. */
+static size_t measure_remark(piece rest, bool *is_closed)
+{
+    *is_closed = true;
+    if (starts_with(rest, "#") || starts_with(rest, "//"))
+        return find_character(rest, '\n');
+    if (!starts_with(rest, "/*"))
+        return 0;
+    for (size_t end = 4; end <= rest.length; end++)
+        if (memcmp(rest.start + end - 2, "*/", 2) == 0)
+            return end;
+    *is_closed = false;
+    return rest.length;
+}
+
+/* Line ends stay, for lines are counted, and so do NUL bytes, which no text may have. */
+static void blank_out(char *bytes, size_t length)
+{
+    for (size_t n = 0; n < length; n++)
+        if (bytes[n] != '\n' && bytes[n] != '\0')
+            bytes[n] = ' ';
+}
+
+/* Returns the number of the line with a remark that is never closed, or 0. */
+static uint32_t blank_remarks(char *bytes, size_t length)
+{
+    uint32_t line = 1, open = 0;
+    for (size_t n = 0; n < length; n++) {
+        bool is_closed = true;
+        size_t remark = measure_remark((piece){ bytes + n, length - n }, &is_closed);
+        blank_out(bytes + n, remark);
+        open = is_closed ? open : line;
+        line += bytes[n] == '\n' ? 1 : 0;
+    }
+    return open;
+}
+
+list_text start_text(char *bytes, size_t length)
+{
+    static const char byte_order_mark[] = "\xEF\xBB\xBF";
+    list_text t = { .bytes = bytes, .length = length, .open_remark = blank_remarks(bytes, length) };
+    if (starts_with((piece){ bytes, length }, byte_order_mark))
+        t.next = sizeof byte_order_mark - 1;
+    return t;
+}
+
 /* ---- Lines ---- */
 
 /* The next line without its end. */
@@ -149,17 +203,40 @@ static void cut_pieces(text_line *line, piece rest)
         line->pieces[line->count++] = next;
 }
 
-/* Offset and bits are for the reader. */
-static void drop_offset_and_bits(text_line *line)
+/* Takes offset and bits off the line. */
+static void cut_offset_and_bits(text_line *line)
 {
-    bool are_there = line->count >= 2 && has_digits(line->pieces[0], 10, 1) && line->pieces[1].length == 8 &&
+    line->has_bits = line->count >= 2 && has_digits(line->pieces[0], 10, 1) && line->pieces[1].length == 8 &&
                      has_digits(line->pieces[1], 16, 8);
-    if (!are_there)
+    if (!line->has_bits)
         return;
+    line->bits = (uint32_t)value_of(line->pieces[1], 16);
     line->count -= 2;
     memmove(line->pieces, line->pieces + 2, line->count * sizeof line->pieces[0]);
     if (line->count == 0)
         line->fault = "no command follows offset and bits";
+}
+
+/* Some are used to ending each line with a semicolon. */
+static piece without_semicolon(piece line)
+{
+    while (line.length > 0 && strchr(" \t\r;", line.start[line.length - 1]) != NULL)
+        line.length--;
+    return line;
+}
+
+/* What is wrong with the line as a whole, or NULL. */
+static const char *find_line_fault(const list_text *t, piece line)
+{
+    if (line.length > MOST_LINE_BYTES)
+        return "the line is longer than 1000 bytes";
+    if (find_character(line, '\0') < line.length)
+        return "the line has a NUL byte in it";
+    if (t->line == t->open_remark)
+        return "the comment that starts here with /* is never closed with */";
+    if (find_character(line, ';') < line.length)
+        return "';' can only end a line: each command needs its own line, and a comment starts with # or //";
+    return NULL;
 }
 
 bool read_line(list_text *t, text_line *line)
@@ -167,16 +244,12 @@ bool read_line(list_text *t, text_line *line)
     *line = (text_line){ 0 };
     if (t->next >= t->length)
         return false;
-    piece rest = cut_line(t);
-    if (rest.length > MOST_LINE_BYTES)
-        line->fault = "the line is longer than 1000 bytes";
-    else if (find_character(rest, '\0') < rest.length)
-        line->fault = "the line has a NUL byte in it";
+    piece whole = cut_line(t), rest = without_semicolon(whole);
+    line->fault = find_line_fault(t, rest);
     if (line->fault != NULL)
         return true;
-    rest.length = find_character(rest, '#');
     cut_label(line, &rest);
     cut_pieces(line, rest);
-    drop_offset_and_bits(line);
+    cut_offset_and_bits(line);
     return true;
 }

@@ -2,26 +2,34 @@
 
 #include <stdio.h>
 
-#include "version.h"
+#include "message.h"
 
 enum { NAME_COLUMNS = 10, OPTION_COLUMNS = 28 };
+
+static void print_summary(const char *name, const char *summary)
+{
+    printf("  %-*s%s\n", NAME_COLUMNS, name, summary);
+}
 
 int print_help(void)
 {
     puts("usage: jokulvisp COMMAND [OPTION ..] FILE ..\n"
          "\n"
-         "Checks, draws and takes apart the display lists of FT81x and BT88x panels.\n");
+         "Checks, draws, prints and assembles display lists of FT81x and BT88x panels.\n");
     for (size_t n = 0; command_at(n) != NULL; n++)
-        printf("  %-*s%s\n", NAME_COLUMNS, command_at(n)->name, command_at(n)->summary);
+        print_summary(command_at(n)->name, command_at(n)->summary);
+    print_summary("help", "explain a command, or print this");
     puts("\n"
-         "jokulvisp COMMAND --help explains a command, jokulvisp --version prints the version.\n"
-         "The manual is 'man jokulvisp'.");
+         "  -h, --help     print this\n"
+         "  -V, --version  print the version\n"
+         "\n"
+         "'jokulvisp help COMMAND' explains a command. The manual is 'man jokulvisp'.");
     return SUCCEEDED;
 }
 
 int print_version(void)
 {
-    puts("jokulvisp " VERSION);
+    puts("jokulvisp " JV_VERSION);
     return SUCCEEDED;
 }
 
@@ -57,7 +65,7 @@ int print_help_of(const command *c)
 {
     printf("usage: jokulvisp %s\n\n%s", c->usage, c->about);
     print_options(c);
-    printf("\nA file named '-' is standard input; one at most can be.\n");
+    printf("\nA file to read that is named '-' is standard input. Only one can be.\n");
     printf("\nExamples:\n%s\nExit status:\n%s", c->examples, c->status);
     return SUCCEEDED;
 }
@@ -67,11 +75,13 @@ int explain_usage(const command *c, const char *what, const char *why)
     fputs("jokulvisp: ", stderr);
     if (c != NULL)
         fprintf(stderr, "%s: ", c->name);
-    if (what != NULL)
-        fprintf(stderr, "%s: ", what);
+    if (what != NULL) {
+        print_name(stderr, what);
+        fputs(": ", stderr);
+    }
     fprintf(stderr, "%s\n", why);
     if (c != NULL)
         fprintf(stderr, "usage: jokulvisp %s\n", c->usage);
-    fprintf(stderr, "'jokulvisp %s%s--help' says more.\n", c != NULL ? c->name : "", c != NULL ? " " : "");
+    fprintf(stderr, "'jokulvisp help%s%s' says more.\n", c != NULL ? " " : "", c != NULL ? c->name : "");
     return GAVE_UP;
 }

@@ -66,33 +66,26 @@ static void print_meaning(FILE *out, const display_list *list, uint32_t bits, jv
 
 /* ---- Words that are refused ---- */
 
-static void print_why_no_command(FILE *out, uint32_t bits)
-{
-    if (bits >> 30 == 3)
-        fprintf(out, "no command has the top two bits 11");
-    else
-        fprintf(out, "no command has the top byte 0x%02" PRIX32, bits >> 24);
-}
-
-static void print_why_no_meaning(FILE *out, const field_names *field, uint32_t value)
+static void print_why_invalid(FILE *out, const field_names *field, uint32_t value)
 {
     const value_set *values = field->values;
     if (values->names != NULL)
-        fprintf(out, "%s %" PRIu32 " is no %s", field->name, value, values->noun);
+        fprintf(out, "%s %" PRIu32 " is not a %s", field->name, value, values->noun);
     else
-        fprintf(out, "%s %s %" PRIu32 " is above %" PRIu32, values->noun, field->name, value, values->most);
+        fprintf(out, "%s %" PRIu32 " is out of range: 0 to %" PRIu32, field->name, value, values->most);
 }
 
-/* Names every field whose value has no meaning. */
-static void print_why_no_meanings(FILE *out, const command_names *names, uint32_t bits)
+/* Names every field whose value is invalid. */
+static void print_invalid_fields(FILE *out, const command_names *names, uint32_t bits)
 {
     const char *between = "";
+    fprintf(out, "%s: ", names->name);
     for (unsigned n = 0; n < count_fields(names); n++) {
         const field_names *field = &names->field[n];
         if (has_meaning(field, value_in(bits, field)))
             continue;
         fputs(between, out);
-        print_why_no_meaning(out, field, value_in(bits, field));
+        print_why_invalid(out, field, value_in(bits, field));
         between = "; ";
     }
 }
@@ -101,9 +94,9 @@ void print_why_refused(FILE *out, uint32_t bits)
 {
     const command_names *names = find_names(command_in(bits));
     if (names == NULL)
-        print_why_no_command(out, bits);
+        fprintf(out, "0x%02" PRIX32 " is not the top byte of any command", bits >> 24);
     else
-        print_why_no_meanings(out, names, bits);
+        print_invalid_fields(out, names, bits);
 }
 
 static void print_refused(FILE *out, uint32_t bits, uint32_t number)

@@ -2,21 +2,16 @@
 
 #include "answer.h"
 #include "check.h"
+#include "kind.h"
 #include "usage.h"
 #include "word.h"
 
-/* Names no file, for a file's name may have line ends in it. */
 static void print_remark(const finished_run *run)
 {
     fputs("# ", stdout);
     print_number(stdout, run->answer);
-    if (run->answer.number == JV_BAD_RAM_G) {
-        fputs(": RAM_G", stdout);
-        print_ram_g_length(stdout, run->input);
-    } else {
-        fputs(": ", stdout);
-        print_reason(stdout, run);
-    }
+    fputs(": ", stdout);
+    print_reason(stdout, run);
     putchar('\n');
 }
 
@@ -51,6 +46,9 @@ static void print_words(const finished_run *run)
     }
     if (place_of_remark(run) == run->list->length)
         print_remark(run);
+    const char *hint = find_hint(run->list);
+    if (hint != NULL)
+        printf("# Hint: %s\n", hint);
 }
 
 int run_words(const order *o)
@@ -59,8 +57,8 @@ int run_words(const order *o)
     if (input == NULL)
         return GAVE_UP;
     finished_run run = check_list(o, input);
-    if (!has_list_length(run.list))
+    if (!has_list_length(run.list->length))
         return tell_answer(stdout, &run);
     print_words(&run);
-    return run.answer.number == JV_DONE ? SUCCEEDED : LIST_AT_FAULT;
+    return run.answer.number != JV_DONE && o->wants_exit_code ? LIST_AT_FAULT : SUCCEEDED;
 }

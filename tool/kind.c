@@ -1,0 +1,132 @@
+#include "kind.h"
+
+#include <stdbool.h>
+#include <string.h>
+
+#include "jokulvisp.h"
+#include "utf8.h"
+
+/* ---- Pictures ---- */
+
+static bool is_png(const uint8_t *bytes, size_t length)
+{
+    static const uint8_t signature[] = { 0x89, 'P', 'N', 'G', '\r', '\n', 0x1A, '\n' };
+    return length >= sizeof signature && memcmp(bytes, signature, sizeof signature) == 0;
+}
+
+/* ---- Text ---- */
+
+static bool is_white_space(unsigned character)
+{
+    return character == ' ' || ('\t' <= character && character <= '\r');
+}
+
+/* How many bytes the first character has, or 0 where no text goes on like this. */
+static size_t text_length(const char *bytes, size_t length)
+{
+    return length > 0 && is_white_space((unsigned char)bytes[0]) ? 1 : printable_length(bytes, length);
+}
+
+/* How many bytes at the start are those of a text. */
+static size_t count_text(const char *bytes, size_t length)
+{
+    size_t count = 0, next = text_length(bytes, length);
+    while (next > 0) {
+        count += next;
+        next = text_length(bytes + count, length - count);
+    }
+    return count;
+}
+
+/* Of a file that is longer than what is held of it, the last character may be cut off. */
+static bool is_text(const display_list *list)
+{
+    enum { MOST_CUT_OFF = 3 };
+    size_t held = held_bytes(list), count = count_text((const char *)list->bytes, held);
+    return count > 0 && (list->length > held ? held - count <= MOST_CUT_OFF : count == held);
+}
+
+static bool is_utf16_character(unsigned unit)
+{
+    return is_white_space(unit) || (0x20 <= unit && unit < 0x7F) || 0xA0 <= unit;
+}
+
+/* A list can start with the byte order mark too, as part of a colour. So what follows must be text as well. */
+static bool is_utf16(const uint8_t *bytes, size_t length)
+{
+    if (length < 2 || bytes[0] + bytes[1] != 0xFF + 0xFE || bytes[0] < 0xFE)
+        return false;
+    unsigned high = bytes[0] == 0xFE ? 0 : 1;
+    for (size_t n = 2; n + 1 < length; n += 2)
+        if (!is_utf16_character((unsigned)bytes[n + high] << 8 | bytes[n + 1 - high]))
+            return false;
+    return true;
+}
+
+/* ---- Lists ---- */
+
+static uint32_t with_bytes_reversed(uint32_t bits)
+{
+    return bits >> 24 | (bits >> 8 & 0xFF00) | (bits << 8 & 0xFF0000) | bits << 24;
+}
+
+/* Whether it is a command with valid fields and without reserved bits. */
+static bool is_plain_word(uint32_t bits)
+{
+    jv_word word = jv_read_word(bits);
+    return word.number == JV_DONE &&
+           jv_write_word(word.command, word.a, word.b, word.c, word.d, word.e).bits == bits;
+}
+
+/* Whether it makes sense with the bytes of each word in the other order, and none as it is. */
+static bool is_list_reversed(const display_list *list)
+{
+    bool is_plain = true;
+    if (!has_list_length(list->length))
+        return false;
+    for (size_t offset = 0; offset < list->length; offset += 4) {
+        uint32_t bits = word_at(list, offset);
+        if (!is_plain_word(with_bytes_reversed(bits)))
+            return false;
+        is_plain = is_plain && is_plain_word(bits);
+    }
+    return !is_plain;
+}
+
+/* No text has a NUL byte. */
+static bool is_list(const uint8_t *bytes, size_t length)
+{
+    if (!has_list_length(length) || memchr(bytes, '\0', length) == NULL)
+        return false;
+    for (size_t offset = 0; offset < length; offset += 4)
+        if (jv_read_word(word_of(bytes + offset)).number != JV_DONE)
+            return false;
+    return true;
+}
+
+/* ---- What to say ---- */
+
+const char *find_hint(const display_list *list)
+{
+    size_t held = held_bytes(list);
+    if (is_png(list->bytes, held))
+        return "This is a PNG picture.";
+    if (is_utf16(list->bytes, held))
+        return "This is UTF-16 text. Save it as UTF-8, then jokulvisp assemble makes a list out of it.";
+    if (is_text(list))
+        return "This is text. jokulvisp assemble makes a list out of it.";
+    if (is_list_reversed(list))
+        return "The bytes of each word seem to be in the wrong order: a list has the lowest byte first.";
+    return NULL;
+}
+
+const char *find_other_than_text(const uint8_t *bytes, size_t length)
+{
+    if (is_png(bytes, length))
+        return "this is a PNG picture, not text";
+    if (is_utf16(bytes, length))
+        return "this is UTF-16 text; save it as UTF-8";
+    if (is_list(bytes, length))
+        return "this is a list already; jokulvisp words prints it as text";
+    return NULL;
+}
