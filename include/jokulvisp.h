@@ -1,19 +1,19 @@
-/* jokulvisp.h - display lists of FT81x and BT88x panels: their words read and written, whole lists checked and painted,
- * frames repainted after an edit of their list, and the ring of commands run that fills a list on the panel.
+/* jokulvisp.h - display lists of FT81x and BT88x panels: read and write their words, check them, draw them, redraw
+ * what an edit changes, and run the command ring that fills a list on the panel.
  *
- * This file is the library's manual as well as its declarations. The archive to link is libjokulvisp.a; it holds x86-64
- * code only. The header is C11 and C++.
+ * This header is the manual of the library. The comment above a call is its contract. Link with libjokulvisp.a, which
+ * holds x86-64 code. The header works in C11 and in C++.
  *
- * What holds for every call:
+ * For every call:
  *
- *   - It keeps no state: the same arguments always give the same answer, and calls may be made from several threads at
- *     once.
- *   - It takes numbers and byte runs and gives numbers. A byte run is a pointer and a length in bytes; where the length
- *     is 0 the pointer may be NULL. It is lent for the call only and not kept. One that is lent as const is not
- *     written; another is written as the call says, and must not share a byte with the call's other runs. No memory is
- *     allocated, and errno is left alone.
- *   - It takes every number that its types can hold. What it cannot work with it refuses by a number in its answer, and
- *     each call says what else the answer then holds.
+ *   - Every input gets an answer, so there is nothing to check before a call. If the call cannot work with what it is
+ *     given, it returns a number that says why, and all buffers are unchanged. (A ring that stops at a faulty command
+ *     keeps what the commands before it did.)
+ *   - A buffer is a pointer and a length in bytes. The pointer may be NULL if the length is 0. The library uses a
+ *     buffer during the call only. A const buffer is read; const buffers may overlap. A buffer that is not const is
+ *     written and must not overlap any other buffer of the call.
+ *   - The same arguments always return the same result. The library has no variables, allocates nothing and leaves
+ *     errno alone. Any number of threads may call it at once.
  */
 #ifndef JOKULVISP_H
 #define JOKULVISP_H
@@ -25,38 +25,114 @@
 extern "C" {
 #endif
 
+#define JV_VERSION "1.2"
+
+/* ---- Limits ----------------------------------------------------------------------------------------------------- */
+
+#define JV_MAX_WIDTH       800      /* frame, in pixels; at least 1 */
+#define JV_MAX_HEIGHT      600      /* frame, in pixels; at least 1 */
+#define JV_MIN_LIST_BYTES  4        /* list; a multiple of 4 */
+#define JV_MAX_LIST_BYTES  8192     /* list; a multiple of 4 */
+#define JV_MAX_RAM_G_BYTES 1048576  /* RAM_G, the panel's graphics memory; at least 0 */
+#define JV_MAX_LIMIT       65536    /* step limit, in words; at least 1 */
+
+#define JV_MAX_CALLS       4        /* calls that are open at the same time */
+#define JV_MAX_CONTEXTS    4        /* saved contexts; saving a fifth drops the oldest */
+#define JV_HANDLES         32       /* bitmap handles, 0 to 31 */
+#define JV_MAX_SCISSOR     2048     /* width and height of SCISSOR_SIZE, in pixels */
+#define JV_MAX_FRAC        4        /* VERTEX_FORMAT */
+#define JV_MIN_END         (-32768) /* x and y of a line's ends, in sixteenths of a pixel */
+#define JV_MAX_END         32767
+
+#define JV_RING_BYTES      4096     /* the command ring */
+#define JV_MAX_WAITING     4092     /* of these, bytes that can wait at the same time */
+#define JV_RAM_DL_BYTES    8192     /* RAM_DL, and the list that is shown */
+
 /* ---- Numbers -----------------------------------------------------------------------------------------------------
  *
- * Each answer begins with one of these, but for the ring's, which have numbers of their own (see the ring, below).
- * Reading or writing a single word gives 0, 11 or 12 and no other; running a list gives any of them.
+ * The first member of every result. jv_number_text says what each number means.
  */
 enum jv_number {
-    JV_DONE            = 0,  /* done: the rest of the answer holds */
+    JV_DONE            = 0,
 
-    /* What was handed over has the wrong measure. */
-    JV_BAD_FRAME       = 1,  /* frame size out of limits, row past the frame, or a lent run of another length */
-    JV_BAD_LIST        = 2,  /* list length not 4 to 8192 bytes, or not a multiple of 4 */
-    JV_BAD_RAM_G       = 3,  /* graphics memory above 1048576 bytes */
-    JV_BAD_LIMIT       = 4,  /* step limit not 1 to 65536 */
+    /* An argument is out of range. */
+    JV_BAD_FRAME       = 1,
+    JV_BAD_LIST        = 2,
+    JV_BAD_RAM_G       = 3,
+    JV_BAD_LIMIT       = 4,
 
-    /* A word of the list is at fault. */
-    JV_PAST_END        = 10, /* the next word starts at or past the list's end */
-    JV_NO_COMMAND      = 11, /* no such command: top two bits 11, or top byte 0x2E to 0x3F */
-    JV_NO_MEANING      = 12, /* a field holds a value without meaning (see the fields below) */
-    JV_NOT_DRAWN       = 13, /* the word has a meaning, but this library does not draw it yet */
-    JV_FIFTH_CALL      = 14, /* CALL while four calls are open */
-    JV_NO_CALL         = 15, /* RETURN while no call is open */
-    JV_SPLIT_TARGET    = 16, /* CALL or JUMP to an offset that is not a multiple of 4 */
-    JV_NO_PRIMITIVE    = 17, /* vertex while no primitive is begun */
-    JV_NO_BITMAP       = 18, /* vertex of a bitmap that is not set up so that it can be drawn */
-    JV_LIMIT_REACHED   = 19, /* as many words fetched as the step limit allows, and the list has not ended */
-    JV_FAR_END         = 20  /* vertex that completes a line, one of whose ends lies too far away */
+    /* Fault numbers, 10 to 20: the list does not draw. */
+    JV_PAST_END        = 10,
+    JV_NO_COMMAND      = 11,
+    JV_NO_MEANING      = 12,
+    JV_NOT_DRAWN       = 13,
+    JV_FIFTH_CALL      = 14,
+    JV_NO_CALL         = 15,
+    JV_SPLIT_TARGET    = 16,
+    JV_NO_PRIMITIVE    = 17,
+    JV_NO_BITMAP       = 18,
+    JV_LIMIT_REACHED   = 19,
+    JV_FAR_END         = 20
 };
+
+/* The ring's calls return these instead. */
+enum jv_ring_number {
+    JV_RING_IDLE      = 0,
+
+    /* The run stopped, and the next one goes on from there. */
+    JV_RING_WAITING   = 30,
+    JV_RING_SWAPPED   = 31,
+
+    /* The command at place is at fault. It had no effect, and the fault mark is set. */
+    JV_RING_UNKNOWN   = 32,
+    JV_RING_LIST_FULL = 34,
+    JV_RING_BAD_RANGE = 35,
+
+    /* The call is refused. Nothing has changed. */
+    JV_RING_BAD_MARK  = 33,
+    JV_RING_FAULTY    = 36,
+    JV_RING_BAD_RUN   = 37,
+    JV_RING_NO_ROOM   = 38
+};
+
+/* Returns one sentence in English for a number of either enum, and "Unknown number." for any other. Never NULL. */
+static inline const char *jv_number_text(uint32_t number)
+{
+    switch (number) {
+    case JV_DONE:           return "Done.";
+    case JV_BAD_FRAME:      return "The frame size is out of range, the frame has no such row, or a buffer has the "
+                                   "wrong length.";
+    case JV_BAD_LIST:       return "The list is not 4 to 8192 bytes long, or its length is not a multiple of 4.";
+    case JV_BAD_RAM_G:      return "RAM_G is longer than 1048576 bytes.";
+    case JV_BAD_LIMIT:      return "The step limit is not 1 to 65536.";
+    case JV_PAST_END:       return "The next word would be past the end of the list.";
+    case JV_NO_COMMAND:     return "There is no such command.";
+    case JV_NO_MEANING:     return "A field has an invalid value.";
+    case JV_NOT_DRAWN:      return "The word is valid, but the library does not draw it yet.";
+    case JV_FIFTH_CALL:     return "CALL while four calls are open.";
+    case JV_NO_CALL:        return "RETURN while no call is open.";
+    case JV_SPLIT_TARGET:   return "CALL or JUMP to an offset that is not a multiple of 4.";
+    case JV_NO_PRIMITIVE:   return "Vertex while no primitive is begun.";
+    case JV_NO_BITMAP:      return "The bitmap of the vertex cannot be drawn.";
+    case JV_LIMIT_REACHED:  return "The step limit was reached before the list ended.";
+    case JV_FAR_END:        return "An end of the line is too far away.";
+    case JV_RING_WAITING:   return "The next command's parameters are not all in the ring yet.";
+    case JV_RING_SWAPPED:   return "A swap was made: there is a new list to show.";
+    case JV_RING_UNKNOWN:   return "There is no such command of the ring.";
+    case JV_RING_BAD_MARK:  return "A mark is out of range or not a multiple of 4.";
+    case JV_RING_LIST_FULL: return "RAM_DL has no room for the word, or for all that APPEND copies.";
+    case JV_RING_BAD_RANGE: return "A range of bytes is not inside RAM_G, or APPEND's count is not a multiple of 4.";
+    case JV_RING_FAULTY:    return "The fault mark is set: reset the ring first.";
+    case JV_RING_BAD_RUN:   return "A buffer of the ring has the wrong length.";
+    case JV_RING_NO_ROOM:   return "The ring has no room for all of the words.";
+    default:                return "Unknown number.";
+    }
+}
 
 /* ---- Commands ----------------------------------------------------------------------------------------------------
  *
- * A command is known by the top byte of its word. The two vertices have two top bits only, 01 and 10, with fields in
- * the six bits below; they go by the byte that those two bits make with zeros after them.
+ * A command is the top byte of its word. The two vertices have only two top bits, 01 and 10, and fields in the six bits
+ * below; each goes by the byte of those two bits and zeros.
  */
 enum jv_command {
     JV_DISPLAY            = 0x00,
@@ -111,9 +187,9 @@ enum jv_command {
 
 /* ---- Fields ------------------------------------------------------------------------------------------------------
  *
- * The fields of each command in their order, high bits first: the first is a in the calls below, the second b, and so
- * on to e. After a field's name stand its highest and its lowest bit, then 's' if it is signed, then in square brackets
- * the values that have a meaning, where they are listed below the table or are not all that the bits can hold.
+ * The fields of each command, high bits first. The first one is a in the calls below, the second b, and so on to e.
+ * Each line gives a field's name, its highest and lowest bit, 's' if it is signed, and in square brackets the values
+ * that are valid: a range, or one of the enums below the table. Without brackets every value is valid.
  *
  *   DISPLAY               none
  *   BITMAP_SOURCE         addr 21..0
@@ -164,21 +240,81 @@ enum jv_command {
  *   VERTEX2F              x 29..15 s, y 14..0 s                    in the unit that VERTEX_FORMAT sets
  *   VERTEX2II             x 29..21, y 20..12, handle 11..7, cell 6..0          x and y in pixels
  *
- *   test        0 NEVER, 1 LESS, 2 LEQUAL, 3 GREATER, 4 GEQUAL, 5 EQUAL, 6 NOTEQUAL, 7 ALWAYS
- *   factor      0 ZERO, 1 ONE, 2 SRC_ALPHA, 3 DST_ALPHA, 4 ONE_MINUS_SRC_ALPHA, 5 ONE_MINUS_DST_ALPHA
- *   action      0 ZERO, 1 KEEP, 2 REPLACE, 3 INCR, 4 DECR, 5 INVERT
- *   primitive   1 BITMAPS, 2 POINTS, 3 LINES, 4 LINE_STRIP, 5 EDGE_STRIP_R, 6 EDGE_STRIP_L, 7 EDGE_STRIP_A,
- *               8 EDGE_STRIP_B, 9 RECTS
- *   format      0 ARGB1555, 1 L1, 2 L4, 3 L8, 4 RGB332, 5 ARGB2, 6 ARGB4, 7 RGB565, 9 TEXT8X8, 10 TEXTVGA,
- *               11 BARGRAPH, 14 PALETTED565, 15 PALETTED4444, 16 PALETTED8, 17 L2
- *   filter      0 NEAREST, 1 BILINEAR
- *   wrap        0 BORDER, 1 REPEAT
+ * Bits that belong to no field are reserved: reading ignores them, writing sets them to 0.
  *
- * Bits that no field of the command has are reserved. They are ignored in reading and 0 in writing.
- *
- * A signed field travels as a 32-bit two's complement number, -16 as 0xFFFFFFF0: pass (uint32_t)-16, and read the value
- * as (int32_t)w.a.
+ * A signed field is a 32-bit two's complement number, -16 is 0xFFFFFFF0: pass (uint32_t)-16, read (int32_t)w.a.
  */
+
+enum jv_test {
+    JV_TEST_NEVER    = 0,
+    JV_TEST_LESS     = 1,
+    JV_TEST_LEQUAL   = 2,
+    JV_TEST_GREATER  = 3,
+    JV_TEST_GEQUAL   = 4,
+    JV_TEST_EQUAL    = 5,
+    JV_TEST_NOTEQUAL = 6,
+    JV_TEST_ALWAYS   = 7
+};
+
+enum jv_factor {
+    JV_FACTOR_ZERO                = 0,
+    JV_FACTOR_ONE                 = 1,
+    JV_FACTOR_SRC_ALPHA           = 2,
+    JV_FACTOR_DST_ALPHA           = 3,
+    JV_FACTOR_ONE_MINUS_SRC_ALPHA = 4,
+    JV_FACTOR_ONE_MINUS_DST_ALPHA = 5
+};
+
+enum jv_action {
+    JV_ACTION_ZERO    = 0,
+    JV_ACTION_KEEP    = 1,
+    JV_ACTION_REPLACE = 2,
+    JV_ACTION_INCR    = 3,
+    JV_ACTION_DECR    = 4,
+    JV_ACTION_INVERT  = 5
+};
+
+enum jv_primitive {
+    JV_PRIMITIVE_BITMAPS      = 1,
+    JV_PRIMITIVE_POINTS       = 2,
+    JV_PRIMITIVE_LINES        = 3,
+    JV_PRIMITIVE_LINE_STRIP   = 4,
+    JV_PRIMITIVE_EDGE_STRIP_R = 5,
+    JV_PRIMITIVE_EDGE_STRIP_L = 6,
+    JV_PRIMITIVE_EDGE_STRIP_A = 7,
+    JV_PRIMITIVE_EDGE_STRIP_B = 8,
+    JV_PRIMITIVE_RECTS        = 9
+};
+
+enum jv_format {
+    JV_FORMAT_ARGB1555     = 0,
+    JV_FORMAT_L1           = 1,
+    JV_FORMAT_L4           = 2,
+    JV_FORMAT_L8           = 3,
+    JV_FORMAT_RGB332       = 4,
+    JV_FORMAT_ARGB2        = 5,
+    JV_FORMAT_ARGB4        = 6,
+    JV_FORMAT_RGB565       = 7,
+    JV_FORMAT_TEXT8X8      = 9,
+    JV_FORMAT_TEXTVGA      = 10,
+    JV_FORMAT_BARGRAPH     = 11,
+    JV_FORMAT_PALETTED565  = 14,
+    JV_FORMAT_PALETTED4444 = 15,
+    JV_FORMAT_PALETTED8    = 16,
+    JV_FORMAT_L2           = 17
+};
+
+enum jv_filter {
+    JV_FILTER_NEAREST  = 0,
+    JV_FILTER_BILINEAR = 1
+};
+
+enum jv_wrap {
+    JV_WRAP_BORDER = 0,
+    JV_WRAP_REPEAT = 1
+};
+
+/* ---- Words ------------------------------------------------------------------------------------------------------- */
 
 /* A word taken apart. Fields that the command does not have are 0. */
 typedef struct { uint32_t number, command, a, b, c, d, e; } jv_word;
@@ -186,207 +322,205 @@ typedef struct { uint32_t number, command, a, b, c, d, e; } jv_word;
 /* A word put together. */
 typedef struct { uint32_t number, bits; } jv_bits;
 
-/* Reads one display list word.
+/* Reads one word of a display list.
  *
- * Takes the word's 32 bits, as the number that its four bytes make with the lowest byte first.
+ * bits: the word as a number, from its four bytes with the lowest byte first.
  *
- * Gives in number
- *   0    the word's command, and its fields in a to e;
- *   11   no such command: the top two bits are 11, or the top byte is 0x2E to 0x3F;
- *   12   a field's value has no meaning: STENCIL_FUNC's func above 7, a stencil action or blend factor above 5, BEGIN's
- *        prim 0 or above 9, a format that is not in the list above, frac above 4, SCISSOR_SIZE's width or height above
- *        2048.
- * Where it is not 0, the command and all fields are 0.
+ * Returns
+ *   number:   JV_DONE        the word is valid
+ *             JV_NO_COMMAND  the top two bits are 11, or the top byte is 0x2E to 0x3F
+ *             JV_NO_MEANING  a field has an invalid value
+ *   command:  an enum jv_command; 0 unless number is JV_DONE
+ *   a to e:   its fields; 0 unless number is JV_DONE
  *
- * A word is judged by itself. Whether a list may use it where it stands (an offset past the list, a handle that is not
- * set up), or whether it can be drawn, is no question here.
+ * The word is judged alone. Whether a list may use it where it stands, and whether it can be drawn, is for jv_check.
  *
- *   jv_read_word(0x40F00110)  gives  { 0, JV_VERTEX2F, 480, 272, 0, 0, 0 }
- *   jv_read_word(0x1C801800)  gives  { 12, 0, 0, 0, 0, 0, 0 }, for a scissor 2049 wide
+ *   jv_read_word(0x40F00110)  returns  { 0, JV_VERTEX2F, 480, 272, 0, 0, 0 }
+ *   jv_read_word(0x1C801800)  returns  { 12, 0, 0, 0, 0, 0, 0 }: the scissor is 2049 wide
  */
 jv_word jv_read_word(uint32_t bits);
 
-/* Writes one display list word.
+/* Writes one word of a display list.
  *
- * Takes a command and its fields in their order; where the command has fewer than five, the places left over are 0.
+ * command, a to e: the command and its fields. Pass 0 for the fields that the command does not have.
  *
- * Gives in number
- *   0    the word, in bits; jv_read_word gives back exactly the command and the fields written;
- *   11   no such command, whatever the fields are;
- *   12   a field's value has no meaning, as in reading, or its bits cannot hold it, or a place that the command does
- *        not have is not 0.
- * Where it is not 0, bits is 0.
+ * Returns
+ *   number:  JV_DONE        jv_read_word reads back the same command and fields
+ *            JV_NO_COMMAND  there is no such command
+ *            JV_NO_MEANING  a field has an invalid value or does not fit its bits, or a field that the command does not
+ *                           have is not 0
+ *   bits:    the word; 0 unless number is JV_DONE
  *
- *   jv_write_word(JV_SCISSOR_SIZE, 80, 60, 0, 0, 0)  gives  { 0, 0x1C05003C }
- *   jv_write_word(JV_TAG, 256, 0, 0, 0, 0)           gives  { 12, 0 }, for eight bits end at 255
+ *   jv_write_word(JV_SCISSOR_SIZE, 80, 60, 0, 0, 0)  returns  { 0, 0x1C05003C }
+ *   jv_write_word(JV_TAG, 256, 0, 0, 0, 0)           returns  { 12, 0 }: a tag has eight bits
  */
 jv_bits jv_write_word(uint32_t command, uint32_t a, uint32_t b, uint32_t c, uint32_t d, uint32_t e);
 
 /* ---- Lists -------------------------------------------------------------------------------------------------------
  *
- * A list is 4 to 8192 bytes, a multiple of 4: words one after the other, the lowest byte of each first. Its run starts
- * at the first word with all settings at their starting values and no bitmap handle set up, goes on word by word, by
- * CALL, RETURN and JUMP also elsewhere, and ends at DISPLAY.
+ * A list is 4 to 8192 bytes: words of four bytes, the lowest byte first. Running a list starts at its first word, with
+ * every setting at its starting value and no bitmap handle set up, and goes on word by word, or where CALL, RETURN and
+ * JUMP lead. It ends at DISPLAY.
  *
- * Of the primitives BITMAPS, POINTS, LINES, LINE_STRIP and RECTS are drawn. A vertex of BITMAPS or POINTS draws by
- * itself. In RECTS and LINES each second vertex draws, with the one before it; in LINE_STRIP each one after the first
- * does, a line from the one before it. Of the two, each is placed by the format and translation at its own vertex; for
- * the rest the settings at the second one count. BEGIN and END drop a vertex that still waits for its second; to save
- * and to restore a context leave it as it is.
+ * BITMAPS and POINTS draw at every vertex. RECTS and LINES draw at every second vertex, with the vertex before it.
+ * LINE_STRIP draws a line at every vertex but the first, from the vertex before it. The vertex format and the
+ * translation count for each vertex where it stands; all other settings count where the second vertex stands. BEGIN and
+ * END drop a first vertex that has no second one yet. Saving and restoring a context keep it.
  *
- * A line has round ends. It covers pixel (x, y) exactly when the point (16 * x, 16 * y), in sixteenths of a pixel, is no
- * further from the segment between its ends than the line width.
+ * Lines have round ends. A line covers pixel (x, y) exactly if the point (16 * x, 16 * y), in sixteenths of a pixel, is
+ * no further from the segment between its ends than the line width.
  */
 
-/* What the run of a list, or of two, came to. */
+/* What a call found out about a list, or about one of two lists. */
 typedef struct { uint32_t number, list, place, count; } jv_answer;
 
-/* Says whether a list draws and, if it does not, which word is at fault and why.
+/* Checks whether a list draws.
  *
- * Takes the list; the graphics memory RAM_G, 0 to 1048576 bytes, of which the length alone counts here (a bitmap has to
- * lie wholly inside); the frame's width, 1 to 800, and height, 1 to 600, in pixels; and the limit, 1 to 65536, of how
- * many words the run may fetch. Neither byte run is written.
+ * list:           read.
+ * ram_g:          RAM_G. Only its length counts here: a bitmap must lie inside it.
+ * width, height:  the frame, in pixels.
+ * limit:          the step limit: how many words the run may fetch.
  *
- * Gives in number
- *   0          the list draws: the run reached DISPLAY within the limit;
- *   1 to 4     frame, list length, RAM_G length or limit is out of bounds, tested in this order; nothing was run;
- *   10 to 20   the run stopped; at each step these are tested in this order:
- *     19   the limit's worth of words has been fetched;
- *     10   the next word starts at or past the list's end, for want of DISPLAY or after a CALL or JUMP past it;
- *     11   there is no such command;
- *     12   a field holds a value without meaning, as in jv_read_word;
- *     13   the word is not drawn yet: BEGIN of an EDGE_STRIP; BITMAP_LAYOUT with a format other than ARGB1555, L8 and
- *          RGB565; BITMAP_SIZE with BILINEAR or REPEAT; a BITMAP_TRANSFORM; PALETTE_SOURCE; MACRO;
- *     14   CALL while four calls are open;
- *     15   RETURN while no call is open;
- *     16   CALL or JUMP to an offset that is not a multiple of 4;
- *     17   a vertex while no primitive is begun;
- *     18   a vertex while BITMAPS is begun whose bitmap cannot be drawn: its handle has had no BITMAP_SOURCE, no
- *          BITMAP_LAYOUT or no BITMAP_SIZE in this run; its stride, layout height, drawn width or drawn height is 0,
- *          high bits included; its cell is not wholly inside RAM_G; or, in a format of two bytes a pixel, source or
- *          stride is odd. VERTEX2II names handle and cell itself, VERTEX2F takes those of BITMAP_HANDLE and CELL;
- *     20   a vertex that completes a line of LINES or LINE_STRIP, one of whose ends, this or the one before, lies
- *          outside -32768 to 32767 sixteenths of a pixel in x or in y, after format and translation.
- *
- * Gives in place, for 10 to 20, the byte offset of the word at fault; for 10 and 19 no word is at fault, and it is the
- * offset of the one that would have been next. For 0 to 4 it is 0.
- *
- * Gives in count the words fetched, DISPLAY and the word at fault included; a word fetched twice counts twice. For 1 to
- * 4 it is 0.
- *
- * Gives 0 in list, always: only a call that takes two lists has one to name.
+ * Returns
+ *   number:  JV_DONE           the list draws: its run reaches DISPLAY within the step limit
+ *            JV_BAD_FRAME, JV_BAD_LIST, JV_BAD_RAM_G, JV_BAD_LIMIT
+ *                              the argument is out of range. They are tested in this order, and nothing was run
+ *            a fault number    the run stopped. Each step tests for these in this order:
+ *              JV_LIMIT_REACHED  the run has fetched as many words as the step limit allows
+ *              JV_PAST_END       the next word would be past the end of the list: DISPLAY is missing, or a CALL or JUMP
+ *                                leads past the end
+ *              JV_NO_COMMAND, JV_NO_MEANING
+ *                                jv_read_word refuses the word
+ *              JV_NOT_DRAWN      BEGIN with an EDGE_STRIP; BITMAP_LAYOUT with a format other than ARGB1555, L8 and
+ *                                RGB565; BITMAP_SIZE with BILINEAR or REPEAT; BITMAP_TRANSFORM_A to F; PALETTE_SOURCE;
+ *                                MACRO
+ *              JV_FIFTH_CALL     CALL while four calls are open
+ *              JV_NO_CALL        RETURN while no call is open
+ *              JV_SPLIT_TARGET   CALL or JUMP to an offset that is not a multiple of 4
+ *              JV_NO_PRIMITIVE   a vertex before BEGIN or after END
+ *              JV_NO_BITMAP      a vertex of BITMAPS, and its handle has had no BITMAP_SOURCE, BITMAP_LAYOUT or
+ *                                BITMAP_SIZE in this run; or its stride, layout height, width or height is 0, high bits
+ *                                included; or its cell is not inside RAM_G; or its format has two bytes a pixel, and
+ *                                its source or stride is odd. VERTEX2II has handle and cell as fields, VERTEX2F uses
+ *                                those of BITMAP_HANDLE and CELL
+ *              JV_FAR_END        a vertex that completes a line, and x or y of one of its ends, after format and
+ *                                translation, is outside -32768 to 32767 sixteenths of a pixel
+ *   list:    0
+ *   place:   with a fault number, the byte offset of the word at fault. With JV_PAST_END and JV_LIMIT_REACHED no word
+ *            is at fault, and place is where the run would go on. Otherwise 0
+ *   count:   how many words the run fetched, DISPLAY or the word at fault included. A word that is fetched twice counts
+ *            twice. 0 if nothing was run
  *
  *   static const uint8_t clear_screen[] = {
  *       0x00, 0x00, 0xFF, 0x02,      CLEAR_COLOR_RGB   255, 0, 0
  *       0x07, 0x00, 0x00, 0x26,      CLEAR             1, 1, 1
  *       0x00, 0x00, 0x00, 0x00,      DISPLAY
  *   };
- *   jv_check(clear_screen, 12, NULL, 0, 480, 272, 65536)  gives  { 0, 0, 0, 3 }
- *   jv_check(clear_screen, 8, NULL, 0, 480, 272, 65536)   gives  { 10, 0, 8, 2 }, for DISPLAY is missing
- *   jv_check(clear_screen, 12, NULL, 0, 480, 272, 2)      gives  { 19, 0, 8, 2 }
- *   jv_check(clear_screen, 12, NULL, 0, 801, 272, 65536)  gives  { 1, 0, 0, 0 }
+ *   jv_check(clear_screen, 12, NULL, 0, 480, 272, 65536)  returns  { 0, 0, 0, 3 }
+ *   jv_check(clear_screen, 8, NULL, 0, 480, 272, 65536)   returns  { 10, 0, 8, 2 }: DISPLAY is missing
+ *   jv_check(clear_screen, 12, NULL, 0, 480, 272, 2)      returns  { 19, 0, 8, 2 }
+ *   jv_check(clear_screen, 12, NULL, 0, 801, 272, 65536)  returns  { 1, 0, 0, 0 }
  */
 jv_answer jv_check(const uint8_t *list, size_t list_length, const uint8_t *ram_g, size_t ram_g_length, uint32_t width,
                    uint32_t height, uint32_t limit);
 
 /* ---- Pictures ----------------------------------------------------------------------------------------------------
  *
- * A picture is three bytes a pixel, red, green and blue; beside it goes a run of tags, one byte a pixel, which say what
- * is touched there. Pixels follow each other from left to right and rows from top to bottom, without gaps: pixel
- * (x, y) of a frame has its red at 3 * (y * width + x) and its tag at y * width + x.
+ * A picture has three bytes a pixel: red, green and blue. The tags have one byte a pixel and say what is touched there.
+ * Pixels go from left to right, rows from top to bottom, without gaps: pixel (x, y) of a frame has its red at
+ * 3 * (y * width + x) and its tag at y * width + x.
  *
- * jv_paint and jv_paint_row paint what the list draws, and nothing of what was in the lent runs before stays: colour
- * and tag start at 0 everywhere, and so do the alpha and the stencil that the list works with but nobody sees. They
- * give the answer of jv_check, and paint only where that is 0:
- *
- *   0          the list draws, and every byte of both runs is painted;
- *   1 to 4     as in jv_check, tested in this order; 1 also says that a lent run has another length than it has to
- *              have, or that the frame has no such row;
- *   10 to 20   as in jv_check, with place and count.
- *
- * Every number but 0 leaves each byte of both runs as it was lent. The answer's list is 0.
- *
- * jv_repaint paints rows in the same way, those alone that an edit of the list concerns, and has an answer of its own.
- *
- * While they paint they keep what the list draws on the stack, of which they take less than 200,000 bytes.
+ * Drawing keeps what the list draws on the stack, less than 200,000 bytes.
  */
 
-/* Paints a frame.
+/* Draws a frame.
  *
- * Takes list, RAM_G, frame and limit as jv_check does, of RAM_G now the bytes too, and lends the picture,
- * 3 * width * height bytes, and the tags, width * height bytes, to be written.
+ * Reads list and RAM_G. Writes picture and tags.
+ *
+ * list, ram_g, width, height, limit:  as in jv_check; RAM_G has the bytes of the bitmaps.
+ * picture:                            3 * width * height bytes.
+ * tags:                               width * height bytes.
+ *
+ * Returns what jv_check returns, and JV_BAD_FRAME also if picture or tags have another length. With JV_DONE every byte
+ * of both is written; what they held before plays no part, because colour, tag, alpha and stencil all start at 0. With
+ * every other number both are unchanged.
  *
  *   static uint8_t picture[3 * 480 * 272], tags[480 * 272];
  *   jv_paint(clear_screen, 12, NULL, 0, 480, 272, 65536, picture, sizeof picture, tags, sizeof tags)
- *       gives { 0, 0, 0, 3 }; each pixel of the picture is 255, 0, 0, and each tag 0
+ *       returns { 0, 0, 0, 3 }; every pixel of the picture is 255, 0, 0, and every tag 0
  *   jv_paint(clear_screen, 8, NULL, 0, 480, 272, 65536, picture, sizeof picture, tags, sizeof tags)
- *       gives { 10, 0, 8, 2 }, for DISPLAY is missing; the red picture stays
+ *       returns { 10, 0, 8, 2 }: DISPLAY is missing, and the picture is still red
  *   jv_paint(clear_screen, 12, NULL, 0, 480, 272, 65536, picture, sizeof picture, NULL, 0)
- *       gives { 1, 0, 0, 0 }, for there are no tags to paint
+ *       returns { 1, 0, 0, 0 }: the tags have the wrong length
  */
 jv_answer jv_paint(const uint8_t *list, size_t list_length, const uint8_t *ram_g, size_t ram_g_length, uint32_t width,
                    uint32_t height, uint32_t limit, uint8_t *picture, size_t picture_length, uint8_t *tags,
                    size_t tags_length);
 
-/* Paints one row of a frame: the same bytes that jv_paint gives it.
+/* Draws one row of a frame: the bytes that jv_paint writes for that row.
  *
- * Takes what jv_paint takes, and the row, 0 to height - 1 from the top; lends that row's picture, 3 * width bytes, and
- * its tags, width bytes. So a frame can be painted by someone who has memory for a single row.
+ * Reads list and RAM_G. Writes picture and tags, which hold this row only.
+ *
+ * list, ram_g, width, height, limit:  as in jv_paint.
+ * row:                                0 at the top, to height - 1.
+ * picture:                            3 * width bytes.
+ * tags:                               width bytes.
+ *
+ * Returns what jv_paint returns, and JV_BAD_FRAME also if the frame has no such row.
  *
  *   uint8_t picture[3 * 480], tags[480];
  *   jv_paint_row(clear_screen, 12, NULL, 0, 480, 272, 271, 65536, picture, sizeof picture, tags, sizeof tags)
- *       gives { 0, 0, 0, 3 }; the last row is painted
+ *       returns { 0, 0, 0, 3 }: the last row is drawn
  *   jv_paint_row(clear_screen, 12, NULL, 0, 480, 272, 272, 65536, picture, sizeof picture, tags, sizeof tags)
- *       gives { 1, 0, 0, 0 }, for there is no row 272
+ *       returns { 1, 0, 0, 0 }: there is no row 272
  */
 jv_answer jv_paint_row(const uint8_t *list, size_t list_length, const uint8_t *ram_g, size_t ram_g_length,
                        uint32_t width, uint32_t height, uint32_t row, uint32_t limit, uint8_t *picture,
                        size_t picture_length, uint8_t *tags, size_t tags_length);
 
-/* Repaints a frame after its list was edited: only the rows that the edit concerns, and says which these are.
+/* Redraws a frame after an edit of its list, but only the rows that the edit changes, and marks these rows.
  *
- * Takes the list before the edit and the one after it, and for both of them RAM_G, frame and limit as jv_paint does;
- * lends the frame's picture, 3 * width * height bytes, its tags, width * height bytes, and the marks, height bytes, one
- * for each row, to be written.
+ * Reads both lists and RAM_G. Writes marks, and the marked rows of picture and tags.
  *
- * A row is marked exactly when what draws in it differs between the two lists. What draws in a row are the CLEARs,
- * points, lines, rectangles and bitmaps that cover at least one of its pixels in both frame and scissor, whatever their
- * tests and masks then let through; a CLEAR without a flag covers none. Those of the one list are held against those of
- * the other in their order and by the values that they draw with:
+ * old_list, new_list:           the list before and after the edit. They may be the same bytes.
+ * ram_g, width, height, limit:  as in jv_paint, for both lists.
+ * picture:                      3 * width * height bytes.
+ * tags:                         width * height bytes.
+ * marks:                        height bytes, one for each row.
  *
- *   CLEAR        its flags, scissor, clear values (colour, alpha, stencil, tag) and masks (colour, stencil, tag);
- *   the others   what it is and where it lies, scissor, colour, alpha, alpha test, stencil test, stencil actions,
- *                blend, masks, tag. A point lies at its centre with its size, a rectangle between its corners, in
- *                either order, with its line width, and a line from its first end to its second, in this order, with
- *                its line width, in sixteenths of a pixel and after the translation; a bitmap at its top left pixel
- *                with its drawn size, and it has the place in RAM_G where its cell starts, format, stride and layout
- *                height. A line of LINES and one of a LINE_STRIP are different things.
+ * A row is marked exactly if what draws in it differs between the two lists. What draws in a row are the CLEARs,
+ * points, lines, rectangles and bitmaps that cover at least one pixel of it inside frame and scissor, even if tests and
+ * masks then change nothing. A CLEAR without a flag covers no pixel. They are compared in order, by the values that
+ * they draw with:
  *
- * So one changed word marks the rows of everything that draws with what it sets, however far behind it that stands. A
- * word that nothing draws with marks no row: a NOP, a setting that was so already, a handle of another number with the
- * same cell. But a value that differs marks its rows even where the pixels come out equal, like the reference of a test
- * that always passes, or two shapes side by side drawn in the other order.
+ *   CLEAR        flags, scissor, clear values (colour, alpha, stencil, tag) and masks (colour, stencil, tag)
+ *   the others   what it is and where it is, scissor, colour, alpha, alpha test, stencil test, stencil actions, blend
+ *                factors, masks and tag. A point is at its centre, with its size. A rectangle is between its corners,
+ *                in either order, with its line width. A line goes from its first end to its second, in this order,
+ *                with its line width. All these are in sixteenths of a pixel, after the translation. A bitmap is at its
+ *                top left pixel, with its size, where its cell starts in RAM_G, format, stride and layout height. A
+ *                line of LINES and a line of LINE_STRIP differ.
  *
- * Gives in number
- *   0          both lists draw. Every byte of marks is written, 1 for a row that is marked and 0 for one that is not.
- *              The picture and tags of a marked row become those that jv_paint gives it for the new list; an unmarked
- *              row keeps each byte as it was lent. In an unmarked row both lists paint the same: a frame that held the
- *              old list's picture and tags holds the new list's afterwards;
- *   1 to 4     as in jv_paint, tested in this order, 1 also for marks of another length than height bytes, and 2 first
- *              of the old list, then of the new; nothing was run;
- *   10 to 20   as in jv_check: the old list does not draw, or it does and the new list does not.
+ * So a changed word marks the rows of everything that draws with the value it sets, however much later in the list. A
+ * word that nothing draws with marks no row: a NOP, a setting that had this value already, another handle with the same
+ * cell. A value that differs marks its rows even if the pixels come out equal: the reference of a test that always
+ * passes, or two shapes side by side that are drawn in the other order.
  *
- * Every number but 0 leaves each byte of picture, tags and marks as it was lent.
+ * Returns
+ *   number:  JV_DONE           both lists draw. Every mark is 1 or 0. Marked rows have the picture and the tags that
+ *                              jv_paint draws for the new list. Unmarked rows are unchanged; both lists draw the same
+ *                              in them. So a frame that held the old list's picture and tags now holds the new list's
+ *            JV_BAD_FRAME, JV_BAD_LIST, JV_BAD_RAM_G, JV_BAD_LIMIT
+ *                              the argument is out of range, tested in this order, JV_BAD_LIST first for the old list.
+ *                              JV_BAD_FRAME also if picture, tags or marks have another length
+ *            a fault number    the old list does not draw, or it does and the new list does not
+ *   list:    with JV_BAD_LIST and with a fault number, which list it is: 1 the old one, 2 the new one. Otherwise 0
+ *   place:   with a fault number, as in jv_check. Otherwise 0
+ *   count:   with JV_DONE, how many rows are marked; with a fault number, as in jv_check. Otherwise 0
  *
- * Gives in list, for 2 and 10 to 20, which list it is about: 1 the old one, 2 the new one. Otherwise it is 0.
+ * With every number but JV_DONE picture, tags and marks are unchanged.
  *
- * Gives in place, for 10 to 20, what jv_check gives for that list, and otherwise 0.
- *
- * Gives in count, for 0, how many rows are marked; for 10 to 20 the words that the list at fault has fetched; otherwise
- * 0.
- *
- * The lists may lie in the same bytes. RAM_G is one for both: an edit of its bytes is no edit of a list and marks
- * nothing, so after one the frame is painted anew.
+ * RAM_G is the same for both lists. If its bytes change, draw the frame again with jv_paint.
  *
  *   static const uint8_t red_pixel[] = {
  *       0x00, 0x00, 0xFF, 0x04,      COLOR_RGB    255, 0, 0
@@ -399,13 +533,13 @@ jv_answer jv_paint_row(const uint8_t *list, size_t list_length, const uint8_t *r
  *   static uint8_t picture[3 * 4 * 4], tags[4 * 4], marks[4];
  *   jv_repaint(red_pixel, 20, blue_pixel, 20, NULL, 0, 4, 4, 65536, picture, sizeof picture, tags, sizeof tags, marks,
  *              sizeof marks)
- *       gives { 0, 0, 0, 1 }; marks are 0, 1, 0, 0, row 1 is black, blue, black, black, the others are as they were
+ *       returns { 0, 0, 0, 1 }; marks are 0, 1, 0, 0, row 1 is black, blue, black, black, the other rows are unchanged
  *   jv_repaint(red_pixel, 20, blue_pixel, 16, NULL, 0, 4, 4, 65536, picture, sizeof picture, tags, sizeof tags, marks,
  *              sizeof marks)
- *       gives { 10, 2, 16, 4 }, for the new list's DISPLAY is missing
+ *       returns { 10, 2, 16, 4 }: DISPLAY is missing in the new list
  *   jv_repaint(red_pixel, 18, blue_pixel, 20, NULL, 0, 4, 4, 65536, picture, sizeof picture, tags, sizeof tags, marks,
  *              sizeof marks)
- *       gives { 2, 1, 0, 0 }, for the old list does not end with a whole word
+ *       returns { 2, 1, 0, 0 }: the length of the old list is not a multiple of 4
  */
 jv_answer jv_repaint(const uint8_t *old_list, size_t old_list_length, const uint8_t *new_list, size_t new_list_length,
                      const uint8_t *ram_g, size_t ram_g_length, uint32_t width, uint32_t height, uint32_t limit,
@@ -414,128 +548,109 @@ jv_answer jv_repaint(const uint8_t *old_list, size_t old_list_length, const uint
 
 /* ---- The ring ----------------------------------------------------------------------------------------------------
  *
- * The panel's coprocessor takes its commands out of a ring that the host writes them into. It puts display list words
- * into RAM_DL, works on RAM_G, and has RAM_DL shown at a swap. Here all of these are byte runs of the caller's:
+ * The panel's coprocessor takes its commands from a ring that the host writes. It puts display list words into RAM_DL,
+ * works on RAM_G, and shows RAM_DL at a swap. Here these are buffers of the caller:
  *
  *   ring     RAM_CMD, 4096 bytes
  *   ram_dl   RAM_DL, the list that is being written, 8192 bytes
- *   shown    the list that was shown last, 8192 bytes, which jv_check and jv_paint take
+ *   shown    the list that was shown last, 8192 bytes: what jv_check and jv_paint read
  *   ram_g    RAM_G, 0 to 1048576 bytes
  *
- * The words in them have their lowest byte first. Four marks say how far things are. They too are the caller's: a call
- * takes them as numbers and gives them back in its answer, to be handed to the next call.
+ * Words have their lowest byte first. Four marks say how far the ring is. They belong to the caller too: pass each call
+ * the marks that the call before it returned.
  *
- *   read     where in the ring the next command starts, in bytes from the ring's start: 0 to 4092, a multiple of 4
- *   write    where the host's next word goes, likewise. The words from read up to write wait, after the ring's last
- *            word from its first again. Where both are equal nothing waits, so no more than 4092 bytes can
- *   offset   where in RAM_DL the next word goes, in bytes: 0 to 8192, a multiple of 4. At 8192 RAM_DL is full
- *   fault    0 for none, 1 after a fault. Any other number is taken for a fault as well
+ *   read     byte offset in the ring of the next command: 0 to 4092, a multiple of 4
+ *   write    byte offset in the ring of the host's next word: 0 to 4092, a multiple of 4. The words from read up to
+ *            write are waiting; after the last word of the ring comes the first. If read and write are equal, none is
+ *            waiting, so at most 4092 bytes can wait
+ *   offset   byte offset in RAM_DL of the next word: 0 to 8192, a multiple of 4. At 8192 RAM_DL is full
+ *   fault    0, or 1 after a fault. Every other value means a fault too
  *
- * A word whose top byte is not FF is a command by itself, whatever it says: it goes to RAM_DL, and offset moves on by
- * 4. The others, with the words that follow them as parameters:
+ * A word whose top byte is not 0xFF is a command by itself, whatever it is: it goes to RAM_DL, and offset goes up by
+ * 4. The other commands, with the words that follow them as parameters:
  *
- *   FFFFFF00   DLSTART                           offset becomes 0
- *   FFFFFF01   SWAP                              shown becomes what RAM_DL is, all of it; RAM_DL and offset stay
- *   FFFFFF1B   MEMSET    address, value, count   so many bytes of RAM_G become the low byte of the value
- *   FFFFFF1C   MEMZERO   address, count          so many bytes of RAM_G become 0
- *   FFFFFF1D   MEMCPY    target, source, count   so many bytes of RAM_G at target become those that were at source; the
- *                                                two may overlap, as if the source were copied elsewhere first
- *   FFFFFF1E   APPEND    address, count          so many bytes of RAM_G go to RAM_DL, and offset moves on by so many
- *   FFFFFF32   COLDSTART                         nothing yet
+ *   0xFFFFFF00   DLSTART                           offset becomes 0
+ *   0xFFFFFF01   SWAP                              copies RAM_DL to shown, all of it; RAM_DL and offset stay
+ *   0xFFFFFF1B   MEMSET    address, value, count   sets count bytes of RAM_G to the low byte of value
+ *   0xFFFFFF1C   MEMZERO   address, count          sets count bytes of RAM_G to 0
+ *   0xFFFFFF1D   MEMCPY    target, source, count   copies count bytes of RAM_G from source to target, which may overlap
+ *   0xFFFFFF1E   APPEND    address, count          copies count bytes of RAM_G to RAM_DL, and offset goes up by count
+ *   0xFFFFFF32   COLDSTART                         does nothing yet
  *
- * Addresses are bytes from RAM_G's start and need be no multiple of 4; a count is of bytes.
+ * Addresses and counts are in bytes. Addresses need not be multiples of 4.
  */
-enum jv_ring_number {
-    JV_RING_IDLE      = 0,  /* run: nothing waits any more; write and reset: done */
 
-    /* The run has stopped, and the next one goes on from there. */
-    JV_RING_WAITING   = 30, /* the parameters of the next command are not all there; it was not taken */
-    JV_RING_SWAPPED   = 31, /* a swap was made */
-
-    /* The command at place is at fault. It was not taken, and the fault mark is set. */
-    JV_RING_UNKNOWN   = 32, /* top byte FF, and none of the seven commands */
-    JV_RING_LIST_FULL = 34, /* RAM_DL has no room for the word, or for all that APPEND copies */
-    JV_RING_BAD_RANGE = 35, /* an address plus the count lies past RAM_G's end, or APPEND's count is no multiple of 4 */
-
-    /* The call is refused, and nothing is changed. */
-    JV_RING_BAD_MARK  = 33, /* read, write or offset is no multiple of 4, or lies past its end */
-    JV_RING_FAULTY    = 36, /* the fault mark is set already */
-    JV_RING_BAD_RUN   = 37, /* a lent run has another length than it has to have */
-    JV_RING_NO_ROOM   = 38  /* the ring has no room for all of the host's words */
-};
-
-/* The four marks, for a caller who keeps them by themselves. */
-typedef struct { uint32_t read, write, offset, fault; } jv_marks;
-
-/* What a call of the ring came to, and the four marks after it.
+/* What a call of the ring returns: the result, and the four marks after it.
  *
- *   number     one of jv_ring_number
- *   place      for 32, 34 and 35 where in the ring the command at fault starts, otherwise 0
- *   count      how many commands the run took, each word that goes to RAM_DL being one of them; neither a command at
- *              fault nor one that lacks parameters is counted. Where nothing was run it is 0
- *   reported   the read mark as the panel shows it (REG_CMD_READ): 0xFFF while the fault mark is set after the call,
- *              and otherwise what read is
+ *   number:    an enum jv_ring_number
+ *   place:     with JV_RING_UNKNOWN, JV_RING_LIST_FULL and JV_RING_BAD_RANGE, the byte offset in the ring of the
+ *              command at fault. Otherwise 0
+ *   count:     how many commands a run took; each word that goes to RAM_DL is one. A command at fault and a command
+ *              that lacks parameters do not count. 0 if nothing was run
+ *   reported:  what the panel shows as the read mark (REG_CMD_READ): 0xFFF if fault is not 0, otherwise read
  */
 typedef struct {
     uint32_t number, place, count, reported;
     uint32_t read, write, offset, fault;
 } jv_ring;
 
-/* Runs the ring: takes the commands that wait, one after the other, until there is a reason to stop.
+/* Runs the ring: takes the waiting commands one after the other, until there is a reason to stop.
  *
- * Takes the ring, which is not written, and the four marks; lends RAM_DL, shown and RAM_G to be written.
+ * Reads ring. Reads and writes ram_dl, shown and ram_g.
  *
- * Gives in number, tested in this order,
- *   37   the ring is not 4096 bytes long, RAM_DL or shown not 8192, or RAM_G longer than 1048576;
- *   33   read, write or offset is no multiple of 4, read or write above 4092, or offset above 8192;
- *   36   the fault mark is not 0;
- * and else, for one command after the other,
- *   0    nothing waits any more;
- *   32   its top byte is FF, and it is none of the seven;
- *   30   it has more parameters than words wait behind it. The host may write the rest, and the next run starts with
- *        this command again;
- *   35   address plus count, for MEMCPY target plus count or source plus count, is above RAM_G's length. The sum does
- *        not wrap. A count of 0 is tested as well: at RAM_G's end it is taken and does nothing, past that it is at
- *        fault. Or APPEND's count is no multiple of 4;
- *   34   RAM_DL ends before the word, or before the last byte that APPEND would copy;
- *   31   it is SWAP, and was taken. What waits behind it is left for the next run.
+ * read, write, offset, fault: the four marks.
  *
- * The ring holds no more than 1023 words that wait, so a run takes no more than 1023 commands.
+ * Returns, tested in this order,
+ *   number:  JV_RING_BAD_RUN    a buffer has the wrong length
+ *            JV_RING_BAD_MARK   read, write or offset is out of range or not a multiple of 4
+ *            JV_RING_FAULTY     fault is not 0
+ *   and then, at each command,
+ *            JV_RING_IDLE       no command is waiting any more
+ *            JV_RING_UNKNOWN    the top byte is 0xFF, and it is not one of the commands above
+ *            JV_RING_WAITING    not all of its parameters are in the ring. Write the rest; the next run starts with
+ *                               this command again
+ *            JV_RING_BAD_RANGE  address plus count (for MEMCPY target plus count, or source plus count) is above the
+ *                               length of RAM_G. The sum does not wrap, and a count of 0 is tested too. Or APPEND's
+ *                               count is not a multiple of 4
+ *            JV_RING_LIST_FULL  RAM_DL has no room for the word, or for all that APPEND copies
+ *            JV_RING_SWAPPED    it was SWAP, and it was taken. The next run takes what waits behind it
  *
- * With each command that is taken, read moves past it and its parameters, at the ring's end to its start. DLSTART,
- * APPEND and the words that go to RAM_DL move offset. write stays.
+ * A command that is taken moves read past it and its parameters. DLSTART, APPEND and words that go to RAM_DL move
+ * offset. write stays. At most 1023 words wait, so a run takes at most 1023 commands.
  *
- * 30 sets no fault: read stays at the command that is waiting.
+ * JV_RING_UNKNOWN, JV_RING_BAD_RANGE and JV_RING_LIST_FULL set fault to 1. The command at fault has no effect, and read
+ * stays at it; the commands before it keep their effect. From then on jv_ring_run and jv_ring_write return
+ * JV_RING_FAULTY until jv_ring_reset.
  *
- * 32, 34 and 35 set the fault mark to 1, and read stays at the command at fault, which is also the place. That command
- * has no effect; those before it keep theirs. From then on run and write give 36, until jv_ring_reset.
- *
- * 33, 36 and 37 change no byte, and give the marks back as they were.
+ * With JV_RING_BAD_RUN, JV_RING_BAD_MARK and JV_RING_FAULTY all buffers are unchanged, and the marks are those passed.
  */
 jv_ring jv_ring_run(const uint8_t *ring, size_t ring_length, uint8_t *ram_dl, size_t ram_dl_length, uint8_t *shown,
                     size_t shown_length, uint8_t *ram_g, size_t ram_g_length, uint32_t read, uint32_t write,
                     uint32_t offset, uint32_t fault);
 
-/* Writes the host's words into the ring, behind those that wait.
+/* Writes the host's words into the ring, behind those that are waiting.
  *
- * Takes the words, which may be parts of commands, and the four marks; lends the ring to be written.
+ * Reads words. Writes ring.
  *
- * Gives in number, tested in this order,
- *   37   the ring is not 4096 bytes long, or the words' length is no multiple of 4;
- *   33   as in jv_ring_run, of all three marks;
- *   36   the fault mark is not 0;
- *   38   the words are longer than the room: 4092 bytes, less those that wait;
- *   0    the words lie in the ring from write on, after its last word from its first again, and write has moved behind
- *        them. The other bytes of the ring and the other marks stay. There may be no words at all.
- * All but 0 change no byte, and give the marks back as they were. Place and count are 0.
+ * words:                       commands or parts of commands; may be empty.
+ * read, write, offset, fault:  the four marks.
  *
- * The room of a command is free again as soon as a run has taken it.
+ * Returns, tested in this order,
+ *   number:  JV_RING_BAD_RUN   the ring is not 4096 bytes long, or the length of words is not a multiple of 4
+ *            JV_RING_BAD_MARK  read, write or offset is out of range or not a multiple of 4
+ *            JV_RING_FAULTY    fault is not 0
+ *            JV_RING_NO_ROOM   words is longer than the room: 4092 bytes, less those that are waiting
+ *            JV_RING_IDLE      the words are in the ring, from the old write mark on, and write has moved behind them.
+ *                              The other bytes of the ring and the other marks are unchanged
+ *   place, count:  0
+ *
+ * With every number but JV_RING_IDLE the ring is unchanged, and the marks are those passed.
  */
 jv_ring jv_ring_write(uint8_t *ring, size_t ring_length, const uint8_t *words, size_t words_length, uint32_t read,
                       uint32_t write, uint32_t offset, uint32_t fault);
 
-/* Resets the coprocessor, after a fault or to start with: gives 0, and 0 for each of the marks, place, count and
- * reported. Nothing waits then. The runs stay as they are.
+/* Resets the ring, at the start or after a fault: returns JV_RING_IDLE, and 0 for everything else, so that nothing is
+ * waiting. Touches no buffer.
  *
  *   static uint8_t ring[4096], ram_dl[8192], shown[8192], ram_g[65536];
  *   static const uint8_t words[] = {
@@ -544,24 +659,15 @@ jv_ring jv_ring_write(uint8_t *ring, size_t ring_length, const uint8_t *words, s
  *       0x07, 0x00, 0x00, 0x26,      CLEAR             1, 1, 1
  *       0x00, 0x00, 0x00, 0x00,      DISPLAY
  *       0x01, 0xFF, 0xFF, 0xFF,      SWAP
- *       0x1C, 0xFF, 0xFF, 0xFF,      MEMZERO, and no parameters yet
+ *       0x1C, 0xFF, 0xFF, 0xFF,      MEMZERO, without its parameters
  *   };
  *   jv_ring a = jv_ring_reset();
  *   a = jv_ring_write(ring, sizeof ring, words, sizeof words, a.read, a.write, a.offset, a.fault);
- *       gives { 0, 0, 0, 0, 0, 24, 0, 0 }
+ *       returns { 0, 0, 0, 0, 0, 24, 0, 0 }
  *   a = jv_ring_run(ring, sizeof ring, ram_dl, sizeof ram_dl, shown, sizeof shown, ram_g, sizeof ram_g, a.read,
  *                   a.write, a.offset, a.fault);
- *       gives { 31, 0, 5, 20, 20, 24, 12, 0 }; shown begins with the list of a red screen. The same once more
- *       gives { 30, 0, 0, 20, 20, 24, 12, 0 }; the host writes MEMZERO's parameters and runs the ring again
- *
- * What to do after a run:
- *
- *   JV_RING_IDLE      all is done; write the next words
- *   JV_RING_WAITING   write the parameters that are missing, and run again
- *   JV_RING_SWAPPED   paint shown, and run again for what waits behind the swap
- *   where a.fault is not 0   look at a.number and a.place, then reset and write the list's words anew
- *
- * If jv_ring_write gives JV_RING_NO_ROOM, run first: that makes room.
+ *       returns { 31, 0, 5, 20, 20, 24, 12, 0 }; shown starts with the list of a red screen. The same call again
+ *       returns { 30, 0, 0, 20, 20, 24, 12, 0 }; the host writes MEMZERO's parameters and runs the ring again
  */
 jv_ring jv_ring_reset(void);
 
