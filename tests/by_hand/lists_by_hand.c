@@ -4,6 +4,7 @@
 #include <stdio.h>
 
 #include "../second/answers.h"
+#include "../second/guide.h"
 #include "../shared/check.h"
 #include "../shared/list_check.h"
 #include "../shared/list_words.h"
@@ -846,7 +847,7 @@ static void check_spelling(void)
     begin_part("words as list_words.h spells them");
     for (size_t n = 0; n < LENGTH(spelled); n++)
         CHECK_HOLDS(guide_write(spelled[n].instruction).bits == spelled[n].bits,
-                    find_entry(spelled[n].instruction.command)->name);
+                    "%s is spelled", find_entry(spelled[n].instruction.command)->name);
 }
 
 static bool is_given_by_lists(uint32_t number)

@@ -1,12 +1,61 @@
 /* Words read and written one at a time: by hand, at the limits of every field, for every top byte, and refused. */
+#include <inttypes.h>
 #include <stddef.h>
+#include <stdio.h>
 
+#include "../second/guide.h"
 #include "../shared/check.h"
 
 _Static_assert(sizeof(jv_word) == 28, "a word's answer is seven numbers");
 _Static_assert(sizeof(jv_bits) == 8, "a written word's answer is two numbers");
 
 #define LENGTH(array) (sizeof(array) / sizeof((array)[0]))
+
+/* ---- One word ---- */
+
+/* Both return what came, for checks that go on from there. */
+#define CHECK_READ(bits, want) check_read(__FILE__, __LINE__, bits, want)
+#define CHECK_WRITE(instruction, want) check_write(__FILE__, __LINE__, instruction, want)
+
+static void print_word(const char *before, jv_word w)
+{
+    printf("%s number %" PRIu32 ", command 0x%02" PRIX32 ", fields 0x%" PRIX32 " 0x%" PRIX32 " 0x%" PRIX32 " 0x%" PRIX32
+           " 0x%" PRIX32 "\n",
+           before, w.number, w.command, w.a, w.b, w.c, w.d, w.e);
+}
+
+static bool are_equal_words(jv_word v, jv_word w)
+{
+    return v.number == w.number && v.command == w.command && v.a == w.a && v.b == w.b && v.c == w.c && v.d == w.d &&
+           v.e == w.e;
+}
+
+static jv_word check_read(const char *file, int line, uint32_t bits, jv_word want)
+{
+    jv_word came = jv_read_word(bits);
+    if (is_to_be_told(file, line, are_equal_words(came, want))) {
+        printf("jv_read_word(0x%08" PRIX32 ")\n", bits);
+        print_word("    came:   ", came);
+        print_word("    wanted: ", want);
+    }
+    return came;
+}
+
+static jv_bits check_write(const char *file, int line, instruction i, jv_bits want)
+{
+    const uint32_t *value = i.field;
+    jv_bits came = jv_write_word(i.command, value[0], value[1], value[2], value[3], value[4]);
+    if (is_to_be_told(file, line, came.number == want.number && came.bits == want.bits)) {
+        printf("jv_write_word(0x%02" PRIX32 ", 0x%" PRIX32 ", 0x%" PRIX32 ", 0x%" PRIX32 ", 0x%" PRIX32 ", 0x%" PRIX32
+               ")\n",
+               i.command, value[0], value[1], value[2], value[3], value[4]);
+        printf("    came:    number %" PRIu32 ", bits 0x%08" PRIX32 "\n", came.number, came.bits);
+        printf("    wanted:  number %" PRIu32 ", bits 0x%08" PRIX32 "\n", want.number, want.bits);
+    }
+    return came;
+}
+
+/* ---- The words ---- */
 
 static const struct {
     uint32_t bits;

@@ -7,8 +7,8 @@
 #include <stdio.h>
 
 #include "../second/runner.h"
+#include "../shared/check.h"
 #include "../shared/draw.h"
-#include "holds.h"
 #include "jokulvisp.h"
 
 enum { LISTS = 30000, MOST_WORDS = 60, LIMIT = 500, POINTS = 2, LINES = 3, LEAST_MET = 1000 };
@@ -102,6 +102,7 @@ int main(void)
 {
     unsigned met = 0;
     start_drawing(20);
+    begin_part("where a far end lies");
     for (unsigned n = 0; n < LISTS; n++) {
         static display_list list;
         make_list(&list);
@@ -110,10 +111,10 @@ int main(void)
             continue;
         followed_vertex told = follow_to_vertex(&list, answer.place, answer.count);
         last_points seen = points_of(&list, answer.count);
-        holds(is_at(told.before, seen.before), "the first end of the line at %" PRIu32, answer.place);
-        holds(is_at(told.at, seen.at), "the second end of the line at %" PRIu32, answer.place);
+        CHECK_HOLDS(is_at(told.before, seen.before), "the first end of the line at %" PRIu32, answer.place);
+        CHECK_HOLDS(is_at(told.at, seen.at), "the second end of the line at %" PRIu32, answer.place);
         met++;
     }
-    holds(met >= LEAST_MET, "far ends come up often enough, not %u times", met);
+    CHECK_HOLDS(met >= LEAST_MET, "far ends come up often enough, not %u times", met);
     return end_checks();
 }

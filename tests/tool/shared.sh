@@ -106,6 +106,6 @@ make_common_files() {
     # CLEAR; BEGIN LINE_STRIP; VERTEX2F 0, 0; VERTEX_TRANSLATE_X -32769; VERTEX2F 0, 16
     make_list far-end 26000007 1F000004 40000000 2B017FFF 40000010 00000000
 
-    try "the program that reads pictures builds" build pictures pictures.c holds.c
+    try "the program that reads pictures builds" build pictures pictures.c ../shared/check.c
     try "lists are assembled to be drawn" make_from_texts small small-edited edited icons
 }

@@ -17,10 +17,10 @@ compare_with_header() {
     print_header_table | diff -u - table.came
 }
 
-try "the table's program builds" build names names.c holds.c tool/names.c
-try "the bitmaps' program builds" build bitmaps bitmaps.c holds.c ../shared/draw.c \
+try "the table's program builds" build names names.c ../shared/check.c tool/names.c
+try "the bitmaps' program builds" build bitmaps bitmaps.c ../shared/check.c ../shared/draw.c \
     tool/{bitmap,follow,list,file}.c
-try "the ends' program builds" build ends ends.c holds.c ../shared/draw.c ../second/runner.c \
+try "the ends' program builds" build ends ends.c ../shared/check.c ../shared/draw.c ../second/runner.c \
     tool/{follow,list,file}.c
 try "each field of each command, against the library" "${RUN[@]}" ./names
 try "each name, against the header" compare_with_header
