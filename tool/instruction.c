@@ -105,7 +105,7 @@ static bool take_label(faults *f, const label_table *labels, piece name, int64_t
 {
     const label *found = find_label(labels, name);
     if (found == NULL)
-        return blame(f, "there is no label %s", show(name).text);
+        return blame(f, "no such label: %s", show(name).text);
     *value = 4 * (int64_t)found->word;
     return true;
 }

@@ -51,16 +51,20 @@ static bool is_utf16_character(unsigned unit)
     return is_white_space(unit) || (0x20 <= unit && unit < 0x7F) || 0xA0 <= unit;
 }
 
-/* A list can start with the byte order mark too, as part of a colour. So what follows must be text as well. */
+/* Whether most of it is ASCII after the byte order mark. A list can start with this mark too, as part of a colour, but
+   half of its words' halves have a command. */
 static bool is_utf16(const uint8_t *bytes, size_t length)
 {
-    if (length < 2 || bytes[0] + bytes[1] != 0xFF + 0xFE || bytes[0] < 0xFE)
+    if (length < 2 || bytes[0] < 0xFE || bytes[1] < 0xFE || bytes[0] == bytes[1])
         return false;
-    unsigned high = bytes[0] == 0xFE ? 0 : 1;
-    for (size_t n = 2; n + 1 < length; n += 2)
-        if (!is_utf16_character((unsigned)bytes[n + high] << 8 | bytes[n + 1 - high]))
+    size_t high = bytes[0] == 0xFE ? 0 : 1, units = length / 2 - 1, ascii = 0;
+    for (const uint8_t *next = bytes + 2; next < bytes + 2 + 2 * units; next += 2) {
+        unsigned unit = (unsigned)next[high] << 8 | next[1 - high];
+        if (!is_utf16_character(unit))
             return false;
-    return true;
+        ascii += unit < 0x80 ? 1 : 0;
+    }
+    return 2 * ascii > units;
 }
 
 /* ---- Lists ---- */
@@ -78,10 +82,11 @@ static bool is_plain_word(uint32_t bits)
            jv_write_word(word.command, word.a, word.b, word.c, word.d, word.e).bits == bits;
 }
 
-/* Whether it makes sense with the bytes of each word in the other order, and none as it is. */
+/* Whether all words make sense with their bytes in the other order, and not all of them as they are. A list has a
+   DISPLAY, which is the same in both orders; other bytes may be vertices by chance. */
 static bool is_list_reversed(const display_list *list)
 {
-    bool is_plain = true;
+    bool is_plain = true, has_display = false;
     if (!has_list_length(list->length))
         return false;
     for (size_t offset = 0; offset < list->length; offset += 4) {
@@ -89,8 +94,9 @@ static bool is_list_reversed(const display_list *list)
         if (!is_plain_word(with_bytes_reversed(bits)))
             return false;
         is_plain = is_plain && is_plain_word(bits);
+        has_display = has_display || bits == 0;
     }
-    return !is_plain;
+    return has_display && !is_plain;
 }
 
 /* No text has a NUL byte. */

@@ -112,8 +112,9 @@ static void print_size_0(FILE *out, const drawn_bitmap *b)
 
 static void print_odd_bytes(FILE *out, const drawn_bitmap *b)
 {
-    fprintf(out, "Handle %" PRIu32 " has source %" PRIu32 " and linestride %" PRIu32 ". In its format both must be even.",
-            b->handle, b->bitmap.source, b->bitmap.stride);
+    fprintf(out, "Handle %" PRIu32 " has source %" PRIu32 " and linestride %" PRIu32 ". ", b->handle, b->bitmap.source,
+            b->bitmap.stride);
+    fputs("In its format both must be even.", out);
 }
 
 static void print_outside_ram_g(FILE *out, const drawn_bitmap *b, const finished_run *run)
@@ -163,7 +164,7 @@ static void print_far_end(FILE *out, const finished_run *run)
     vertex_place end = is_first ? v.before : v.at;
     fprintf(out, "The %s end is at x=%" PRId32 " y=%" PRId32 ", in sixteenths of a pixel. ",
             is_first ? "first" : "second", end.x, end.y);
-    fprintf(out, "Both ends must be at %d to %d.", JV_MIN_END, JV_MAX_END);
+    fprintf(out, "x and y of both ends must be %d to %d.", JV_MIN_END, JV_MAX_END);
 }
 
 /* ---- The whole ---- */

@@ -14,10 +14,15 @@ static bool is_letter(char c)
     return ('a' <= c && c <= 'z') || ('A' <= c && c <= 'Z');
 }
 
+static bool is_one_of(char c, const char *characters)
+{
+    return c != '\0' && strchr(characters, c) != NULL;
+}
+
 /* Brackets and commas say nothing, and neither does the line end of another system. */
 static bool is_blank(char c)
 {
-    return c != '\0' && strchr(" \t\r(),", c) != NULL;
+    return is_one_of(c, " \t\r(),");
 }
 
 /* The value of a digit to base 10 or 16, or -1. */
@@ -220,12 +225,12 @@ static void cut_offset_and_bits(text_line *line)
 /* Some are used to ending each line with a semicolon. */
 static piece without_semicolon(piece line)
 {
-    while (line.length > 0 && strchr(" \t\r;", line.start[line.length - 1]) != NULL)
+    while (line.length > 0 && is_one_of(line.start[line.length - 1], " \t\r;"))
         line.length--;
     return line;
 }
 
-/* What is wrong with the line as a whole, or NULL. */
+/* What is wrong with the line that was read last, as a whole, or NULL. */
 static const char *find_line_fault(const list_text *t, piece line)
 {
     if (line.length > MOST_LINE_BYTES)
@@ -234,7 +239,8 @@ static const char *find_line_fault(const list_text *t, piece line)
         return "the line has a NUL byte in it";
     if (t->line == t->open_remark)
         return "the comment that starts here with /* is never closed with */";
-    if (find_character(line, ';') < line.length)
+    piece rest = without_semicolon(line);
+    if (find_character(rest, ';') < rest.length)
         return "';' can only end a line: each command needs its own line, and a comment starts with # or //";
     return NULL;
 }
@@ -245,7 +251,7 @@ bool read_line(list_text *t, text_line *line)
     if (t->next >= t->length)
         return false;
     piece whole = cut_line(t), rest = without_semicolon(whole);
-    line->fault = find_line_fault(t, rest);
+    line->fault = find_line_fault(t, whole);
     if (line->fault != NULL)
         return true;
     cut_label(line, &rest);

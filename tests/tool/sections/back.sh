@@ -3,8 +3,8 @@
 
 # Makes text of a list and a list of the text, and compares the lists.
 go_and_return() {
-    jokulvisp words "$1" >back.txt || [ $? -eq 1 ] || return
-    jokulvisp assemble -o back.list back.txt >back.said && cmp "$1" back.list
+    jokulvisp words "$1" >back.txt && jokulvisp assemble -o back.list back.txt >back.said 2>back.warned &&
+        cmp "$1" back.list && diff /dev/null back.warned
 }
 
 # Does so with many lists, and tells which of them fail.

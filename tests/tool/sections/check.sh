@@ -22,6 +22,9 @@ head -c 1048576 /dev/zero >full_ram_g
 
 try "check, a list that draws" compare_tool check-done check panel.list
 try "check, on standard input" compare_tool check-done check - <panel.list
+try "check, on standard input by its name" compare_tool check-done check /dev/stdin <panel.list
+try "check, on standard input by its number" compare_tool check-done check /dev/fd/0 < <(cat panel.list)
+try "check, a frame and a limit of the largest" compare_tool check-done check -s 800x600 -l 65536 panel.list
 try "check, every option" compare_tool check-done check --size 800x600 panel.list --limit 30 --ram-g ram_g
 try "check, every option in short" compare_tool check-done check -s 800x600 -l 30 panel.list -g ram_g
 try "check, values close to their options" compare_tool check-done check -s800x600 --limit=30 -gram_g panel.list
@@ -34,10 +37,6 @@ try "check, a list whose name begins with a dash" compare_tool check-done check 
 cp panel.list 'a panel.list'
 try "check, a list with a blank in its name" compare_tool check-done check 'a panel.list'
 
-try "check, a frame too wide" compare_tool check-too-wide check -s 801x272 panel.list
-try "check, a frame too high" compare_tool check-too-high check -s 480x601 panel.list
-try "check, a frame of nothing" compare_tool check-no-frame check -s 0x0 panel.list
-try "check, a frame far too large" compare_tool check-vast-frame check -s 4294967295x4294967295 panel.list
 try "check, a short list" compare_tool check-short-list check short.list
 try "check, a length that is no multiple of 4" compare_tool check-odd-list check odd.list
 try "check, the longest list" compare_tool check-longest-list check longest.list
@@ -46,11 +45,7 @@ try "check, an empty list" compare_tool check-empty-list check - </dev/null
 try "check, an endless list" compare_tool check-endless-list check - </dev/zero
 try "check, RAM_G too large" compare_tool check-large-ram-g check -g large_ram_g panel.list
 try "check, an endless RAM_G" compare_tool check-endless-ram-g check -g - panel.list </dev/zero
-try "check, a limit of 0" compare_tool check-limit-0 check -l 0 panel.list
-try "check, a limit too high" compare_tool check-limit-too-high check -l 65537 panel.list
-try "check, the frame before all" compare_tool check-too-wide check -s 801x272 -g large_ram_g -l 0 long.list
-try "check, the list before RAM_G" compare_tool check-long-list check -g large_ram_g -l 0 long.list
-try "check, RAM_G before the limit" compare_tool check-large-ram-g check -g large_ram_g -l 0 panel.list
+try "check, the list before RAM_G" compare_tool check-long-list check -g large_ram_g long.list
 
 try "check, no DISPLAY" check_list past-end
 try "check, a jump past the end" check_words jump-past-end 1E00FFFC 00000000
@@ -92,8 +87,63 @@ try "check, a far end" check_list far-end
 # BEGIN LINES; VERTEX_FORMAT 0; SAVE_CONTEXT; VERTEX2F 0, 2048; RESTORE_CONTEXT; VERTEX2II 0, 1, 0, 0
 try "check, a far first end" check_words far-first-end 1F000003 27000000 22000000 40000800 23000000 80001000 00000000
 
+# Bytes of RAM_G: a cell of one byte, and a RAM_G of one.
+printf '\0' >byte
+# BITMAP_SOURCE 1; BITMAP_LAYOUT L8, 1 by 1; BITMAP_SIZE 1 by 1
+try "check, one byte outside RAM_G" \
+    check_words one-byte 01000001 07180201 08000201 1F000001 80000000 00000000 -- -g byte
+try "check, a list of one byte" compare_tool check-byte check byte
+
 try "check, a missing list" compare_tool missing-list check missing.list
 try "check, a list without a name" compare_tool nameless check ''
 try "check, a missing RAM_G" compare_tool missing-ram-g check -g missing.ram_g panel.list
 try "check, a folder" compare_tool folder check folder
 try "check, a folder for RAM_G" compare_tool folder check -g folder panel.list
+
+# A name with a line end, an escape, a control character of two bytes, a byte that is no character, and characters.
+strange=$'a\nb\t\r\33[31m\302\233\177\377 \303\251\342\202\254.list'
+cp faulty.list "$strange"
+try "check, a strange name in an answer" compare_tool check-strange-name check "$strange"
+rm "$strange"
+try "check, a strange name that is missing" compare_tool check-strange-missing check "$strange"
+try "check, a strange name of RAM_G" compare_tool check-strange-ram-g check -g "$strange" panel.list
+
+# ---- Quiet -----------------------------------------------------------------------------------------------------------
+
+try "check, quiet" compare_tool check-quiet check -q panel.list
+try "check, quiet, a fault" compare_tool check-quiet-fault check --quiet faulty.list
+try "check, quiet, no list" compare_tool check-quiet-fault check -q odd.list
+try "check, quiet, a missing list" compare_tool missing-list check -q missing.list
+
+# ---- Files that are no lists, and lists that are not taken for something else ----------------------------------------
+
+# CLEAR_COLOR_RGB 255, 0, 0; CLEAR 1, 1, 1; DISPLAY, each with its bytes the other way round
+make_list swapped 0000FF02 07000026 00000000
+try "check, swapped bytes that draw" check_list swapped
+# VERTEX2F 0, 46 and DISPLAY
+make_list swapped-fault 2E000040 00000000
+try "check, swapped bytes at fault" check_list swapped-fault
+# As it is: VERTEX2F 0, 38; both ways it has a meaning.
+try "check, no hint for bytes that are right both ways" check_words right-both-ways 40000026 00000000
+try "check, no hint for one word that is wrong both ways" check_words wrong-both-ways 2E000040 2E00002E 00000000
+printf 'CLEAR(1, 1, 1)\nDISPLAY\n' >text.list
+try "check, text" check_list text
+printf '// \303\251\r\nDISPLAY;\r\n\n\n\n' >whole-text.list
+try "check, text with the length of a list" check_list whole-text
+printf '\357\273\277DISPLAY\n' >marked-text.list
+try "check, text with a byte order mark" check_list marked-text
+# The file's first 8193 bytes, which are read, end within a character.
+{ printf 'x%.0s' {1..8192}; printf '\303\251\n'; } >long-text.list
+try "check, text that is too long" check_list long-text
+printf 'DISPLAY\0' >nul-text.list
+try "check, no hint for text with a NUL" check_list nul-text
+printf 'DISPLAY\377' >no-text.list
+try "check, no hint for what is not UTF-8" check_list no-text
+printf '\377\376D\0I\0S\0P\0\n\0' >utf16.list
+try "check, UTF-16" check_list utf16
+printf '\376\377\0D\0I\0S\0\n\0' >utf16-high.list
+try "check, UTF-16, the high byte first" check_list utf16-high
+# COLOR_RGB 255, 254, 255; VERTEX2F 480, 272
+try "check, no hint for a colour like a byte order mark" check_words no-utf16 04FFFEFF 40F00110
+jokulvisp draw -q -s 1x1 -o png.list panel.list
+try "check, a picture" check_list png

@@ -36,13 +36,11 @@ try "draw, bitmaps as the library paints them" draw_and_paint draw-icons 120 30 
 try "draw, a fault" write_and_keep check-no-meaning draw "${drawn[@]}" no-meaning.list
 try "draw, a bitmap without RAM_G" write_and_keep check-no-ram-g draw "${drawn[@]}" no-ram-g.list
 try "draw, the limit reached" write_and_keep check-limit-reached draw -l 3 "${drawn[@]}" limit-reached.list
-try "draw, a frame too wide" write_and_keep check-too-wide draw -s 801x272 "${drawn[@]}" panel.list
-try "draw, a frame far too large" write_and_keep check-vast-frame draw -s 4294967295x4294967295 "${drawn[@]}" panel.list
-try "draw, a frame of nothing" write_and_keep check-no-frame draw -s 0x0 "${drawn[@]}" panel.list
+try "draw, a frame too wide" write_and_keep draw-too-wide draw -s 801x272 "${drawn[@]}" panel.list
 try "draw, an empty list" write_and_keep check-empty-list draw "${drawn[@]}" - </dev/null
 try "draw, a short list" write_and_keep check-short-list draw "${drawn[@]}" short.list
 try "draw, RAM_G too large" write_and_keep check-large-ram-g draw -g large_ram_g "${drawn[@]}" panel.list
-try "draw, a limit of 0" write_and_keep check-limit-0 draw -l 0 "${drawn[@]}" panel.list
+try "draw, a limit of 0" write_and_keep draw-limit-0 draw -l 0 "${drawn[@]}" panel.list
 try "draw, a missing list" write_and_keep missing-list draw "${drawn[@]}" missing.list
 try "draw, an endless list" write_and_keep check-endless-list draw "${drawn[@]}" - </dev/zero
 try "draw, a folder for a list" write_and_keep folder draw "${drawn[@]}" folder

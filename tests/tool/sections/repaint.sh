@@ -49,12 +49,11 @@ try "repaint, the limit reached in the new list" \
     write_and_keep repaint-limit repaint -l 28 "${repainted[@]}" edited.list panel.list
 try "repaint, an old list too long" write_and_keep repaint-old-long repaint "${repainted[@]}" long.list panel.list
 try "repaint, a short new list" write_and_keep repaint-new-short repaint "${repainted[@]}" panel.list short.list
+try "repaint, text for the new list" write_and_keep repaint-new-text repaint "${repainted[@]}" panel.list panel.txt
 try "repaint, an empty new list" write_and_keep repaint-new-empty repaint "${repainted[@]}" panel.list - </dev/null
 try "repaint, a frame too wide" \
-    write_and_keep check-too-wide repaint -s 801x272 "${repainted[@]}" panel.list edited.list
-try "repaint, a frame far too large" \
-    write_and_keep check-vast-frame repaint -s 4294967295x4294967295 "${repainted[@]}" panel.list edited.list
+    write_and_keep repaint-too-wide repaint -s 801x272 "${repainted[@]}" panel.list edited.list
 try "repaint, RAM_G too large" \
     write_and_keep check-large-ram-g repaint -g large_ram_g "${repainted[@]}" panel.list edited.list
-try "repaint, a limit of 0" write_and_keep check-limit-0 repaint -l 0 "${repainted[@]}" panel.list edited.list
+try "repaint, a limit of 0" write_and_keep repaint-limit-0 repaint -l 0 "${repainted[@]}" panel.list edited.list
 try "repaint, a missing list" write_and_keep missing-list repaint "${repainted[@]}" panel.list missing.list
