@@ -53,7 +53,8 @@ static int run(int count, char **arguments)
     return explain_usage(NULL, first, first[0] == '-' ? "the command must come first" : "no such command");
 }
 
-/* Output is buffered, so a full disk may show only here. A reader that has read enough is no trouble to tell about. */
+/* Output is buffered, so a full disk may show only here. A reader that closes a pipe has read enough, and there is
+   nothing to say about that. */
 static bool is_all_written(void)
 {
     errno = 0;

@@ -171,13 +171,26 @@ static void add_options(option_tables *tables, const command *c)
     }
 }
 
+/* Whether an option's name starts with these letters after two dashes. */
+static bool starts_option(const command *c, const char *argument, size_t length)
+{
+    for (size_t n = 0; option_at(n) != NULL; n++)
+        if (takes_option(c, option_at(n)->letter) && strncmp(option_at(n)->name, argument + 2, length - 2) == 0)
+            return true;
+    return false;
+}
+
 /* getopt leaves in `optopt` the letter of an option, and 0 for a long name that it does not know, which then lies just
-   before `optind`. */
+   before `optind`. It takes the start of a name, unless several names start so. */
 static bool refuse_unknown(const order *o, const char *argument)
 {
     const char letter[] = { '-', (char)optopt, '\0' };
-    shown_bytes name = show_bytes(argument, strcspn(argument, "="));
-    return refuse(o, optopt != 0 ? letter : name.text, "no such option");
+    size_t length = strcspn(argument, "=");
+    if (optopt != 0)
+        return refuse(o, letter, "no such option");
+    bool is_start = starts_option(o->command, argument, length);
+    return refuse(o, show_bytes(argument, length).text,
+                  is_start ? "more than one option starts like this" : "no such option");
 }
 
 static bool refuse_use(const order *o, const option_names *option)

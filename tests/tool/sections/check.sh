@@ -100,8 +100,10 @@ try "check, a missing RAM_G" compare_tool missing-ram-g check -g missing.ram_g p
 try "check, a folder" compare_tool folder check folder
 try "check, a folder for RAM_G" compare_tool folder check -g folder panel.list
 
-# A name with a line end, an escape, a control character of two bytes, a byte that is no character, and characters.
-strange=$'a\nb\t\r\33[31m\302\233\177\377 \303\251\342\202\254.list'
+# Control characters of one byte and of two, and characters of two to four bytes. Then bytes that are no characters: one
+# that starts none, one that continues none, a long spelling of '/', a surrogate, one past the last, and one cut short.
+strange=$'a\nb\t\r\33[31m\302\233\177 \303\251\342\202\254\360\237\230\200'
+strange+=$' \377 \200 \300\257 \355\240\200 \364\220\200\200 \342\202'
 cp faulty.list "$strange"
 try "check, a strange name in an answer" compare_tool check-strange-name check "$strange"
 rm "$strange"

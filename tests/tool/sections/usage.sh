@@ -56,6 +56,7 @@ try "no text" compare_tool no-text assemble -o none.list
 try "no such option" compare_tool no-such-option check --depth 3 panel.list
 try "no such option, with a value" compare_tool no-such-option check --depth=3 panel.list
 try "no such option in short" compare_tool no-such-short-option check -d 3 panel.list
+try "the start of two options" compare_tool two-options draw --t=1 -o none.png panel.list
 try "an option that would do something to a terminal" compare_tool strange-option check $'--de\33pth' panel.list
 try "an option in short that would, too" compare_tool strange-short-option check $'-\33' panel.list
 try "an option that has no short name" compare_tool no-short-name draw -t tags.png -o none.png panel.list
@@ -88,6 +89,10 @@ for case in negative=-1 0=0 too-short=0.0009 too-long=1000000.001 vast=184467440
     no-fraction=2. no-seconds=.5 two-points=1.2.3 comma=0,5 empty=; do
     try "a timeout of '${case#*=}'" compare_tool "timeout-${case%%=*}" \
         draw "--timeout=${case#*=}" -o none.png panel.list
+done
+
+for seconds in 1000000 1000000.0009 02.5; do
+    try "a timeout of '$seconds'" jokulvisp draw -q --timeout "$seconds" -o drawn.png panel.list
 done
 
 try "standard input twice" compare_tool input-twice check --ram-g - -
