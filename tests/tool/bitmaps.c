@@ -6,17 +6,17 @@
 #include <inttypes.h>
 #include <stdio.h>
 
+#include "../shared/check.h"
 #include "../shared/draw.h"
-#include "holds.h"
 #include "jokulvisp.h"
 
-enum { LISTS = 30000, MOST_WORDS = 60, LARGEST_RAM_G = 1048576, LIMIT = 500 };
+enum { LISTS = 30000, MOST_WORDS = 60, LIMIT = 500 };
 
-static const uint8_t ram_g[LARGEST_RAM_G];
+static const uint8_t ram_g[JV_MAX_RAM_G_BYTES];
 
 static uint32_t draw_format(void)
 {
-    static const uint32_t drawn[] = { 0, 3, 7 };
+    static const uint32_t drawn[] = { JV_FORMAT_ARGB1555, JV_FORMAT_L8, JV_FORMAT_RGB565 };
     return drawn[draw_below(3)];
 }
 
@@ -76,7 +76,7 @@ static jv_bits draw_word(uint32_t saves)
 static void make_list(display_list *list)
 {
     list->length = 0;
-    append_word(list, jv_write_word(JV_BEGIN, 1, 0, 0, 0, 0).bits);
+    append_word(list, jv_write_word(JV_BEGIN, JV_PRIMITIVE_BITMAPS, 0, 0, 0, 0).bits);
     uint32_t settings = draw_below(20), saves = draw_below(8);
     for (uint32_t n = 1; n < MOST_WORDS; n++)
         append_word(list, n < settings ? draw_setting().bits : draw_word(saves).bits);
@@ -98,12 +98,12 @@ static void check_cause(const display_list *list, size_t ram_g_length, jv_answer
     drawn_bitmap b = follow_to_vertex(list, answer.place, answer.count).bitmap;
     bitmap_fault cause = find_bitmap_fault(&b, ram_g_length);
     counts[cause]++;
-    holds(cause != NOTHING_WRONG, "a cause is found for the fault at %" PRIu32, answer.place);
+    CHECK_HOLDS(cause != NOTHING_WRONG, "a cause is found for the fault at %" PRIu32, answer.place);
     if (cause != OUTSIDE_RAM_G) {
-        holds(is_still_at_fault(list, LARGEST_RAM_G, answer), "cause %d is not RAM_G", cause);
-    } else if (end_of_cell(&b) <= LARGEST_RAM_G) {
-        holds(is_still_at_fault(list, end_of_cell(&b) - 1, answer), "a cell ends no earlier than told");
-        holds(!is_still_at_fault(list, end_of_cell(&b), answer), "a cell ends no later than told");
+        CHECK_HOLDS(is_still_at_fault(list, JV_MAX_RAM_G_BYTES, answer), "cause %d is not RAM_G", cause);
+    } else if (end_of_cell(&b) <= JV_MAX_RAM_G_BYTES) {
+        CHECK_HOLDS(is_still_at_fault(list, end_of_cell(&b) - 1, answer), "a cell ends no earlier than told");
+        CHECK_HOLDS(!is_still_at_fault(list, end_of_cell(&b), answer), "a cell ends no later than told");
     }
 }
 
@@ -111,6 +111,7 @@ int main(void)
 {
     unsigned counts[NOTHING_WRONG + 1] = { 0 };
     start_drawing(18);
+    begin_part("why a bitmap cannot be drawn");
     for (unsigned n = 0; n < LISTS; n++) {
         static display_list list;
         size_t ram_g_length = draw_below(3) == 0 ? 0 : draw_below(1000);
@@ -120,6 +121,6 @@ int main(void)
             check_cause(&list, ram_g_length, answer, counts);
     }
     for (unsigned cause = 0; cause < NOTHING_WRONG; cause++)
-        holds(counts[cause] >= 100, "cause %u comes up often enough, not %u times", cause, counts[cause]);
+        CHECK_HOLDS(counts[cause] >= 100, "cause %u comes up often enough, not %u times", cause, counts[cause]);
     return end_checks();
 }

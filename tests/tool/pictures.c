@@ -13,17 +13,17 @@
 #include <stdlib.h>
 #include <string.h>
 
-#include "holds.h"
+#include "../shared/check.h"
 #include "jokulvisp.h"
 
-enum { WIDEST = 816, HIGHEST = 600, STRIP = 16, LIMIT = 65536, COLOURS = 256 };
+enum { STRIP = 16, WIDEST = STRIP + JV_MAX_WIDTH, COLOURS = 256 };
 
 /* The bytes of a PNG file's pixels: three of them a pixel, or one where there is a palette. */
 typedef struct {
     const char *name;
     uint32_t width, height;
     int depth, kind;
-    uint8_t bytes[3 * WIDEST * HIGHEST];
+    uint8_t bytes[3 * WIDEST * JV_MAX_HEIGHT];
     png_color palette[COLOURS];
     int colours;
 } image;
@@ -62,7 +62,7 @@ static void read_head(image *i, png_structp png, png_infop info)
     i->depth = png_get_bit_depth(png, info);
     i->kind = png_get_color_type(png, info);
     bool is_known = i->kind == PNG_COLOR_TYPE_RGB || i->kind == PNG_COLOR_TYPE_PALETTE;
-    if (!is_known || i->depth != 8 || i->width > WIDEST || i->height > HIGHEST)
+    if (!is_known || i->depth != 8 || i->width > WIDEST || i->height > JV_MAX_HEIGHT)
         give_up(i->name, "neither 8-bit RGB nor 8-bit indexed, or too large");
     if (png_get_rowbytes(png, info) != row_bytes(i) || png_get_interlace_type(png, info) != PNG_INTERLACE_NONE)
         give_up(i->name, "rows of another length, or interlaced");
@@ -79,6 +79,7 @@ static void read_rows(image *i, png_structp png)
 static void read_image(image *i, char *name)
 {
     i->name = name;
+    begin_part(name);
     FILE *file = fopen(name, "rb");
     if (file == NULL)
         give_up(name, "cannot be opened");
@@ -89,7 +90,7 @@ static void read_image(image *i, char *name)
     read_rows(i, png);
     png_read_end(png, NULL);
     png_destroy_read_struct(&png, &info, NULL);
-    holds(fgetc(file) == EOF, "%s ends with its picture", name);
+    CHECK_HOLDS(fgetc(file) == EOF, "it ends with its picture");
     fclose(file);
 }
 
@@ -131,7 +132,7 @@ static void compare_kind(const image *i, uint32_t width, uint32_t height, int ki
 static void compare_bytes(const image *i, const uint8_t *wanted)
 {
     for (size_t n = 0; n < i->height * row_bytes(i); n++)
-        holds(i->bytes[n] == wanted[n], "%s: byte %zu is %u, not %u", i->name, n, wanted[n], i->bytes[n]);
+        CHECK_HOLDS(i->bytes[n] == wanted[n], "byte %zu is %u, not %u", n, wanted[n], i->bytes[n]);
 }
 
 static void compare_picture(char *name, uint32_t width, uint32_t height, const uint8_t *picture)
@@ -155,15 +156,15 @@ static int distance(png_color a, png_color b)
 static void compare_colour(const image *i, int colour)
 {
     for (int other = 0; other < colour; other++)
-        holds(distance(i->palette[colour], i->palette[other]) >= 4, "%s: tags %d and %d look different", i->name,
-              colour, other);
+        CHECK_HOLDS(distance(i->palette[colour], i->palette[other]) >= 4, "tags %d and %d look different", colour,
+                    other);
 }
 
 static void compare_palette(const image *i)
 {
-    holds(i->colours == COLOURS, "%s has a colour for each tag, not %d", i->name, i->colours);
-    holds(is_colour(i->palette[0], 0, 0, 0), "%s: tag 0 is black", i->name);
-    holds(is_colour(i->palette[COLOURS - 1], 255, 255, 255), "%s: tag 255 is white", i->name);
+    CHECK_HOLDS(i->colours == COLOURS, "it has a colour for each tag, not %d", i->colours);
+    CHECK_HOLDS(is_colour(i->palette[0], 0, 0, 0), "tag 0 is black");
+    CHECK_HOLDS(is_colour(i->palette[COLOURS - 1], 255, 255, 255), "tag 255 is white");
     for (int n = 0; n < i->colours; n++)
         compare_colour(i, n);
 }
@@ -180,12 +181,13 @@ static void compare_tags(char *name, uint32_t width, uint32_t height, const uint
 /* ---- Painting ---- */
 
 typedef struct {
-    uint8_t bytes[1048576];
+    uint8_t bytes[JV_MAX_RAM_G_BYTES];
     size_t length;
 } run_of_bytes;
 
 static run_of_bytes ram_g, lists[2];
-static uint8_t picture[3 * WIDEST * HIGHEST], tags[WIDEST * HIGHEST], marks[HIGHEST], marked[3 * WIDEST * HIGHEST];
+static uint8_t picture[3 * WIDEST * JV_MAX_HEIGHT], tags[WIDEST * JV_MAX_HEIGHT], marks[JV_MAX_HEIGHT],
+    marked[3 * WIDEST * JV_MAX_HEIGHT];
 
 static void read_bytes(run_of_bytes *run, const char *name)
 {
@@ -198,18 +200,20 @@ static void read_bytes(run_of_bytes *run, const char *name)
 
 static void paint(uint32_t width, uint32_t height)
 {
+    begin_part("painting");
     size_t pixels = (size_t)width * height;
-    jv_answer answer = jv_paint(lists[0].bytes, lists[0].length, ram_g.bytes, ram_g.length, width, height, LIMIT,
+    jv_answer answer = jv_paint(lists[0].bytes, lists[0].length, ram_g.bytes, ram_g.length, width, height, JV_MAX_LIMIT,
                                 picture, 3 * pixels, tags, pixels);
-    holds(answer.number == JV_DONE, "the list draws");
+    CHECK_HOLDS(answer.number == JV_DONE, "the list draws");
 }
 
 static void repaint(uint32_t width, uint32_t height)
 {
     size_t pixels = (size_t)width * height;
-    jv_answer answer = jv_repaint(lists[0].bytes, lists[0].length, lists[1].bytes, lists[1].length, ram_g.bytes,
-                                  ram_g.length, width, height, LIMIT, picture, 3 * pixels, tags, pixels, marks, height);
-    holds(answer.number == JV_DONE, "both lists draw");
+    jv_answer answer =
+        jv_repaint(lists[0].bytes, lists[0].length, lists[1].bytes, lists[1].length, ram_g.bytes, ram_g.length, width,
+                   height, JV_MAX_LIMIT, picture, 3 * pixels, tags, pixels, marks, height);
+    CHECK_HOLDS(answer.number == JV_DONE, "both lists draw");
 }
 
 static void set_pixel(uint8_t *pixel, const uint8_t colour[3])
