@@ -20,7 +20,7 @@ ARCHIVE = target/staticlib/libjokulvisp.a
 TOOL = target/tool/jokulvisp
 ROWSHOW = target/bin/rowshow
 PKG_CONFIG_FILE = target/jokulvisp.pc
-CALLS = jv_read_word jv_write_word jv_check jv_paint jv_paint_row jv_repaint jv_ring_run jv_ring_write jv_ring_reset
+CALLS = jv_number_text jv_read_word jv_write_word jv_check jv_paint jv_paint_row jv_repaint jv_ring_run jv_ring_write jv_ring_reset
 VERSION = $(shell sed -n 's/^\#define JV_VERSION "\(.*\)"/\1/p' include/jokulvisp.h)
 
 all: $(ARCHIVE) $(TOOL) $(PKG_CONFIG_FILE)

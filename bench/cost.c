@@ -118,7 +118,8 @@ int main(int count, char **arguments)
     fill_scene_ram_g(ram_g);
     repaint_request request = { .old_list = old_list,
                                 .old_list_length = old_length,
-                                .paint = { .run = { list, length, sizeof ram_g, SCENE_WIDTH, SCENE_HEIGHT, 65536 },
+                                .paint = { .run = { list, length, sizeof ram_g, SCENE_WIDTH, SCENE_HEIGHT,
+                                                    JV_MAX_LIMIT },
                                            .ram_g = ram_g,
                                            .picture = picture,
                                            .picture_length = sizeof picture,

@@ -5,7 +5,9 @@
 #include <stddef.h>
 #include <stdint.h>
 
-enum { MOST_WORDS = 2048 };
+#include "jokulvisp.h"
+
+enum { MOST_WORDS = JV_MAX_LIST_BYTES / 4 };
 
 /* How much RAM_G the bitmaps of the lists need. */
 enum { RAM_G_BYTES = 65536 };

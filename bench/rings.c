@@ -10,9 +10,9 @@
 #include "../tests/shared/ring_words.h"
 #include "jokulvisp.h"
 
-enum { RING_BYTES = 4096, LIST_BYTES = 8192, RAM_G_BYTES = 65536, MOST_WORDS = 1023, TIMES_MANY_BYTES = 4 };
+enum { RAM_G_BYTES = 65536, MOST_WORDS = JV_MAX_WAITING / 4, TIMES_MANY_BYTES = 4 };
 
-static uint8_t ring[RING_BYTES], ram_dl[LIST_BYTES], shown[LIST_BYTES], ram_g[RAM_G_BYTES];
+static uint8_t ring[JV_RING_BYTES], ram_dl[JV_RAM_DL_BYTES], shown[JV_RAM_DL_BYTES], ram_g[RAM_G_BYTES];
 static uint8_t host_words[4 * MOST_WORDS];
 
 /* A ring being written, and how many things there are in it. */
@@ -78,8 +78,8 @@ static void write_down(draft *d)
 static void write_append(draft *d)
 {
     for (uint32_t n = 0; n < TIMES_MANY_BYTES; n++) {
-        PUT(d, DLSTART(), APPEND(n * LIST_BYTES, LIST_BYTES));
-        d->things += LIST_BYTES;
+        PUT(d, DLSTART(), APPEND(n * JV_RAM_DL_BYTES, JV_RAM_DL_BYTES));
+        d->things += JV_RAM_DL_BYTES;
     }
 }
 

@@ -270,7 +270,7 @@ static void put_card(draft *d, uint32_t n, stretches s)
     put(d, POINT_SIZE(16 * 12));
     put_vertex(d, 30, 12);
     put(d, SCISSOR_XY(0, 0));
-    put(d, SCISSOR_SIZE(2048, 2048));
+    put(d, SCISSOR_SIZE(JV_MAX_SCISSOR, JV_MAX_SCISSOR));
     put(d, BEGIN(BITMAPS));
     put(d, ALPHA_FUNC(3, 16));
     put_icon(d, n == MIDDLE_CARD && d->is_word_changed ? 10 : 4, 3, n % ICON_HANDLES, n % ICON_CELLS);

@@ -2,10 +2,10 @@
 #include <jokulvisp.h>
 #include <stdio.h>
 
-enum { WIDTH = 480, HEIGHT = 272, LIMIT = 65536 };
+enum { WIDTH = 480, HEIGHT = 272, LIMIT = JV_MAX_LIMIT };
 
-/* One byte more than is allowed, so that what is too long is refused and not cut off. */
-static uint8_t old_list[8193], new_list[8193], ram_g[1048577];
+/* One byte more than is allowed, so that a file that is too long is refused, not cut off. */
+static uint8_t old_list[JV_MAX_LIST_BYTES + 1], new_list[JV_MAX_LIST_BYTES + 1], ram_g[JV_MAX_RAM_G_BYTES + 1];
 static uint8_t picture[3 * WIDTH * HEIGHT], tags[WIDTH * HEIGHT], marks[HEIGHT];
 
 static size_t load(const char *name, uint8_t *bytes, size_t room)
@@ -19,7 +19,7 @@ static size_t load(const char *name, uint8_t *bytes, size_t room)
 
 static int is_done(const char *call, jv_answer a)
 {
-    fprintf(stderr, "%s: number %u, list %u, place %u, count %u\n", call, a.number, a.list, a.place, a.count);
+    fprintf(stderr, "%s: %s List %u, byte %u, count %u.\n", call, jv_number_text(a.number), a.list, a.place, a.count);
     return a.number == JV_DONE;
 }
 

@@ -130,8 +130,8 @@ install_missing() {
     need_compilers
 }
 
-# Makes the second program's stand-in out of the folder with its sources, as one object that shows the nine calls and
-# none of its other names.
+# Makes the second program's stand-in out of the folder with its sources, as one object that shows the calls of the
+# header and none of its other names.
 make_stand_in() {
     local sources=$1 object=$2 objects
     objects=$(mktemp -d)

@@ -27,7 +27,7 @@ static actions actions_of(const uint32_t *words, size_t count)
     uint8_t list[4 * MOST_WORDS];
     actions kept = { .count = 0 };
     put_words(list, words, count);
-    run_answer ran = run_list_for_actions(&(run_request){ list, 4 * count, 64, 480, 272, 65536 }, keep, &kept);
+    run_answer ran = run_list_for_actions(&(run_request){ list, 4 * count, 64, 480, 272, JV_MAX_LIMIT }, keep, &kept);
     CHECK_HOLDS(ran.number == 0, "the list draws");
     return kept;
 }
@@ -50,23 +50,25 @@ static void check_starting_values(void)
     CHECK_HOLDS(point->colour.red == 255 && point->colour.green == 255 && point->colour.blue == 255, "white");
     CHECK_HOLDS(point->colour.alpha == 255 && point->tag == 255, "opaque, with tag 255");
     CHECK_HOLDS(point->scissor.x == 0 && point->scissor.y == 0, "scissor from the corner");
-    CHECK_HOLDS(point->scissor.width == 2048 && point->scissor.height == 2048, "over everything");
+    CHECK_HOLDS(point->scissor.width == JV_MAX_SCISSOR && point->scissor.height == JV_MAX_SCISSOR, "over everything");
     CHECK_HOLDS(point->masks.colour == 15 && point->masks.stencil == 255 && point->masks.tag == 1, "masks all set");
-    CHECK_HOLDS(point->alpha_test.func == 7 && point->alpha_test.ref == 0, "alpha test ALWAYS");
-    CHECK_HOLDS(point->stencil_test.func == 7 && point->stencil_test.ref == 0, "stencil test ALWAYS");
+    CHECK_HOLDS(point->alpha_test.func == ALWAYS && point->alpha_test.ref == 0, "alpha test ALWAYS");
+    CHECK_HOLDS(point->stencil_test.func == ALWAYS && point->stencil_test.ref == 0, "stencil test ALWAYS");
     CHECK_HOLDS(point->stencil_test.mask == 255, "on all bits");
-    CHECK_HOLDS(point->stencil_actions.sfail == 1 && point->stencil_actions.spass == 1, "KEEP, KEEP");
-    CHECK_HOLDS(point->blend.src == 2 && point->blend.dst == 4, "SRC_ALPHA, ONE_MINUS_SRC_ALPHA");
+    CHECK_HOLDS(point->stencil_actions.sfail == KEEP && point->stencil_actions.spass == KEEP, "KEEP, KEEP");
+    CHECK_HOLDS(point->blend.src == SRC_ALPHA && point->blend.dst == ONE_MINUS_SRC_ALPHA,
+                "SRC_ALPHA, ONE_MINUS_SRC_ALPHA");
 }
 
 static void check_settings(void)
 {
     begin_part("actions: settings");
-    actions got = ACTIONS_OF(
-        CLEAR_COLOR_RGB(1, 2, 3), CLEAR_COLOR_A(4), CLEAR_STENCIL(5), CLEAR_TAG(6), COLOR_RGB(7, 8, 9), COLOR_A(10),
-        TAG(11), SCISSOR_XY(12, 13), SCISSOR_SIZE(14, 15), COLOR_MASK(1, 0, 1, 0), STENCIL_MASK(16), TAG_MASK(0),
-        ALPHA_FUNC(1, 17), STENCIL_FUNC(2, 18, 19), STENCIL_OP(3, 4), BLEND_FUNC(5, 0), LINE_WIDTH(20), CLEAR(0, 1, 0),
-        BEGIN(RECTS), VERTEX2II(2, 1, 9, 9), VERTEX2II(1, 2, 9, 9), DISPLAY());
+    actions got =
+        ACTIONS_OF(CLEAR_COLOR_RGB(1, 2, 3), CLEAR_COLOR_A(4), CLEAR_STENCIL(5), CLEAR_TAG(6), COLOR_RGB(7, 8, 9),
+                   COLOR_A(10), TAG(11), SCISSOR_XY(12, 13), SCISSOR_SIZE(14, 15), COLOR_MASK(1, 0, 1, 0),
+                   STENCIL_MASK(16), TAG_MASK(0), ALPHA_FUNC(LESS, 17), STENCIL_FUNC(LEQUAL, 18, 19),
+                   STENCIL_OP(INCR, DECR), BLEND_FUNC(ONE_MINUS_DST_ALPHA, ZERO), LINE_WIDTH(20), CLEAR(0, 1, 0),
+                   BEGIN(RECTS), VERTEX2II(2, 1, 9, 9), VERTEX2II(1, 2, 9, 9), DISPLAY());
     CHECK_HOLDS(got.count == 2, "a clear and a rectangle");
     const run_action *clear = &got.action[0], *box = &got.action[1];
     CHECK_HOLDS(clear->flags == 2, "the stencil is cleared");
@@ -81,11 +83,11 @@ static void check_settings(void)
         CHECK_HOLDS(a->scissor.width == 14 && a->scissor.height == 15, "SCISSOR_SIZE");
         CHECK_HOLDS(a->masks.colour == 10 && a->masks.stencil == 16 && a->masks.tag == 0, "the masks");
     }
-    CHECK_HOLDS(box->alpha_test.func == 1 && box->alpha_test.ref == 17, "ALPHA_FUNC");
-    CHECK_HOLDS(box->stencil_test.func == 2 && box->stencil_test.ref == 18 && box->stencil_test.mask == 19,
+    CHECK_HOLDS(box->alpha_test.func == LESS && box->alpha_test.ref == 17, "ALPHA_FUNC");
+    CHECK_HOLDS(box->stencil_test.func == LEQUAL && box->stencil_test.ref == 18 && box->stencil_test.mask == 19,
                 "STENCIL_FUNC");
-    CHECK_HOLDS(box->stencil_actions.sfail == 3 && box->stencil_actions.spass == 4, "STENCIL_OP");
-    CHECK_HOLDS(box->blend.src == 5 && box->blend.dst == 0, "BLEND_FUNC");
+    CHECK_HOLDS(box->stencil_actions.sfail == INCR && box->stencil_actions.spass == DECR, "STENCIL_OP");
+    CHECK_HOLDS(box->blend.src == ONE_MINUS_DST_ALPHA && box->blend.dst == ZERO, "BLEND_FUNC");
 }
 
 /* Document 01's example 11, with a point after each restore to show the alpha. */
@@ -109,9 +111,9 @@ static void check_whole_context(void)
     actions got = ACTIONS_OF(
         LINE_WIDTH(1), BEGIN(RECTS), VERTEX2F(1, 1), VERTEX2F(2, 2), SAVE_CONTEXT(), COLOR_RGB(7, 8, 9), COLOR_A(10),
         TAG(11), SCISSOR_XY(12, 13), SCISSOR_SIZE(14, 15), COLOR_MASK(1, 0, 1, 0), STENCIL_MASK(16), TAG_MASK(0),
-        ALPHA_FUNC(1, 17), STENCIL_FUNC(2, 18, 19), STENCIL_OP(3, 4), BLEND_FUNC(5, 0), LINE_WIDTH(20),
-        VERTEX_FORMAT(0), VERTEX_TRANSLATE_X(100), VERTEX_TRANSLATE_Y(100), RESTORE_CONTEXT(), VERTEX2F(1, 1),
-        VERTEX2F(2, 2), DISPLAY());
+        ALPHA_FUNC(LESS, 17), STENCIL_FUNC(LEQUAL, 18, 19), STENCIL_OP(INCR, DECR),
+        BLEND_FUNC(ONE_MINUS_DST_ALPHA, ZERO), LINE_WIDTH(20), VERTEX_FORMAT(0), VERTEX_TRANSLATE_X(100),
+        VERTEX_TRANSLATE_Y(100), RESTORE_CONTEXT(), VERTEX2F(1, 1), VERTEX2F(2, 2), DISPLAY());
     CHECK_HOLDS(got.count == 2, "two rectangles");
     CHECK_HOLDS(are_equal_actions(&got.action[0], &got.action[1]), "equal by value");
 }
@@ -176,7 +178,7 @@ static void check_bitmap(void)
     const bitmap_shape *b = &got.action[0].bitmap;
     CHECK_HOLDS(b->left == -1 && b->top == 0, "-1 sixteenth lies in pixel -1, 15 in pixel 0");
     CHECK_HOLDS(b->width == 517 && b->height == 1031, "drawn size with its high bits");
-    CHECK_HOLDS(b->cell_start == 28 && b->format == 7 && b->stride == 6 && b->layout_height == 2, "cell 2");
+    CHECK_HOLDS(b->cell_start == 28 && b->format == RGB565 && b->stride == 6 && b->layout_height == 2, "cell 2");
     CHECK_HOLDS(got.action[1].bitmap.left == 20 && got.action[1].bitmap.top == 30, "VERTEX2II in pixels");
     CHECK_HOLDS(got.action[1].bitmap.cell_start == 16, "VERTEX2II's own cell 1");
     CHECK_HOLDS(!are_equal_actions(&got.action[0], &got.action[1]), "no two of them are equal");

@@ -7,8 +7,6 @@
 #include "../shared/check.h"
 #include "hand_pictures.h"
 
-enum { ONE = 1, ZERO = 0, GREATER = 3, INCR = 3, KEEP = 1 };
-
 static const hand_picture places[] = {
     { CASE("VERTEX2II in pixels"), LIST(TWO_BY_TWO, VERTEX2II(1, 1, 0, 0), DISPLAY()),
       SHOWS("....",

@@ -150,7 +150,7 @@ bool are_equal_bytes(const uint8_t *a, const uint8_t *b, size_t length)
 
 void check_picture(const char *file, const hand_picture *h)
 {
-    static uint8_t bytes[MOST_LIST_BYTES];
+    static uint8_t bytes[JV_MAX_LIST_BYTES];
     put_words(bytes, h->words, h->count);
     uint8_t *list = copied(bytes, 4 * h->count), *ram_g = copied(h->ram_g, h->ram_g_length);
     uint32_t count = (uint32_t)h->count;

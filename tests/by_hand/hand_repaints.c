@@ -7,8 +7,6 @@
 #include "../shared/list_check.h"
 #include "../shared/repaint_check.h"
 
-enum { LIMIT = 65536 };
-
 /* The two lists and RAM_G, each in memory of exactly its length. */
 typedef struct {
     uint8_t *old_list, *new_list, *ram_g;
@@ -37,7 +35,7 @@ static bool are_marks_as_wanted(const hand_picture *h, const uint8_t *marks)
 
 static run_request run_of(const hand_picture *h, const uint8_t *list, size_t words)
 {
-    return (run_request){ list, 4 * words, h->ram_g_length, (uint32_t)width_of(h), (uint32_t)h->height, LIMIT };
+    return (run_request){ list, 4 * words, h->ram_g_length, (uint32_t)width_of(h), (uint32_t)h->height, JV_MAX_LIMIT };
 }
 
 static lent_runs lend_frame(const hand_picture *h)

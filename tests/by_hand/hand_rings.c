@@ -20,8 +20,9 @@ static size_t changed_length(size_t length, int more)
 
 static lent_ring lend_for(const hand_ring *h)
 {
-    const size_t length[RING_RUNS] = { changed_length(4096, h->ring_more), changed_length(8192, h->ram_dl_more),
-                                       changed_length(8192, h->shown_more), h->ram_g_length };
+    const size_t length[RING_RUNS] = { changed_length(JV_RING_BYTES, h->ring_more),
+                                       changed_length(JV_RAM_DL_BYTES, h->ram_dl_more),
+                                       changed_length(JV_RAM_DL_BYTES, h->shown_more), h->ram_g_length };
     lent_ring lent = lend_ring(length);
     if (h->ram_g != NULL)
         memcpy(lent.bytes[RAM_G], h->ram_g, h->ram_g_length);
@@ -32,7 +33,7 @@ static lent_ring lend_for(const hand_ring *h)
 static void lay_waiting_words(const hand_ring *h, lent_ring *lent)
 {
     for (size_t n = 0; n < h->count; n++) {
-        size_t place = ((size_t)h->marks.read / 4 + n) * 4 % RING_BYTES;
+        size_t place = ((size_t)h->marks.read / 4 + n) * 4 % JV_RING_BYTES;
         if (place + 4 <= lent->length[THE_RING])
             put_words(lent->bytes[THE_RING] + place, &h->words[n], 1);
     }

@@ -50,8 +50,11 @@ typedef struct {
     }
 #define SHOWN_IS_LIST                                                                                                  \
     {                                                                                                                  \
-        .run = SHOWN, .at = 0, .count = 8192, .has_source = true, .source = RAM_DL                                     \
+        .run = SHOWN, .at = 0, .count = FULL, .has_source = true, .source = RAM_DL                                     \
     }
+
+/* The place of the ring's last word, and the offset at which RAM_DL is full. */
+enum { LAST = JV_RING_BYTES - 4, FULL = JV_RAM_DL_BYTES };
 
 /* What waits lies in the ring from the read mark on before a run; before a write it is what the host hands over. RAM_G
    has no byte unless a case says so; the others' lengths are the right ones and as many more. */

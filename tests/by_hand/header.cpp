@@ -1,4 +1,5 @@
-// The header as C++ sees it: the answers have the layout that C has, and each call links and answers.
+// The header as C++ sees it: the answers have the layout that C has, constants and texts are there, and each call links
+// and answers.
 #include <cstddef>
 #include <cstdint>
 #include <cstdio>
@@ -14,17 +15,13 @@ static_assert(offsetof(jv_bits, bits) == 4, "in order");
 static_assert(sizeof(jv_answer) == 16, "a list's answer is four numbers");
 static_assert(offsetof(jv_answer, list) == 4 && offsetof(jv_answer, place) == 8 && offsetof(jv_answer, count) == 12,
               "in order");
-static_assert(sizeof(jv_marks) == 16, "the ring's marks are four numbers");
-static_assert(offsetof(jv_marks, write) == 4 && offsetof(jv_marks, offset) == 8 && offsetof(jv_marks, fault) == 12,
-              "in order");
 static_assert(sizeof(jv_ring) == 32, "a ring's answer is eight numbers");
 static_assert(offsetof(jv_ring, place) == 4 && offsetof(jv_ring, count) == 8 && offsetof(jv_ring, reported) == 12 &&
                   offsetof(jv_ring, read) == 16 && offsetof(jv_ring, write) == 20 && offsetof(jv_ring, offset) == 24 &&
                   offsetof(jv_ring, fault) == 28,
               "in order");
 static_assert(std::is_standard_layout<jv_word>::value && std::is_standard_layout<jv_bits>::value &&
-                  std::is_standard_layout<jv_answer>::value && std::is_standard_layout<jv_marks>::value &&
-                  std::is_standard_layout<jv_ring>::value,
+                  std::is_standard_layout<jv_answer>::value && std::is_standard_layout<jv_ring>::value,
               "as in C");
 
 // The manual's example: a red screen.
@@ -45,8 +42,8 @@ static bool do_paint_calls_answer()
 {
     std::uint8_t picture[6] = { 9, 9, 9, 9, 9, 9 }, tags[2] = { 9, 9 }, row[6] = { 9, 9, 9, 9, 9, 9 };
     const jv_answer frame_came = jv_paint(clear_screen, 12, nullptr, 0, 2, 1, 64, picture, 6, tags, 2);
-    const bool is_painted = is_answer(frame_came, JV_DONE, 0, 3) && is_red(picture) && is_red(picture + 3) &&
-                            tags[0] == 0 && tags[1] == 0;
+    const bool is_painted =
+        is_answer(frame_came, JV_DONE, 0, 3) && is_red(picture) && is_red(picture + 3) && tags[0] == 0 && tags[1] == 0;
     const jv_answer row_came = jv_paint_row(clear_screen, 12, nullptr, 0, 2, 1, 0, 64, row, 6, tags, 2);
     const bool is_row_painted = is_answer(row_came, JV_DONE, 0, 3) && is_red(row) && is_red(row + 3);
     return is_painted && is_row_painted &&
@@ -76,7 +73,7 @@ static bool does_repaint_call_answer()
     return is_repainted && is_refused;
 }
 
-static std::uint8_t ring[4096], ram_dl[8192], shown[8192], ram_g[16];
+static std::uint8_t ring[JV_RING_BYTES], ram_dl[JV_RAM_DL_BYTES], shown[JV_RAM_DL_BYTES], ram_g[16];
 
 static bool is_ring_answer(const jv_ring &came, const jv_ring &wanted)
 {
@@ -113,8 +110,8 @@ static bool do_ring_calls_answer()
     a = run_ring(a);
     const bool is_waiting = is_ring_answer(a, { JV_RING_WAITING, 0, 0, 20, 20, 24, 12, 0 });
     a = run_ring(write_to_ring(parameters, sizeof parameters, a));
-    const bool is_done = is_ring_answer(a, { JV_RING_IDLE, 0, 1, 32, 32, 32, 12, 0 }) &&
-                         std::memcmp(ram_g, zeroed, sizeof zeroed) == 0;
+    const bool is_done =
+        is_ring_answer(a, { JV_RING_IDLE, 0, 1, 32, 32, 32, 12, 0 }) && std::memcmp(ram_g, zeroed, sizeof zeroed) == 0;
     a = run_ring(write_to_ring(unknown, sizeof unknown, a));
     const bool is_at_fault = is_ring_answer(a, { JV_RING_UNKNOWN, 32, 0, 0xFFF, 32, 36, 12, 1 }) &&
                              is_ring_answer(run_ring(a), { JV_RING_FAULTY, 0, 0, 0xFFF, 32, 36, 12, 1 });
@@ -129,20 +126,25 @@ int main()
                        read.c == 31 && read.d == 84 && read.e == 0;
     const jv_bits written = jv_write_word(JV_VERTEX2II, 220, 110, 31, 84, 0);
     const bool writes = written.number == JV_DONE && written.bits == 0x9B86EFD4;
+    const bool names = jv_write_word(JV_BEGIN, JV_PRIMITIVE_POINTS, 0, 0, 0, 0).bits == 0x1F000002 &&
+                       jv_write_word(JV_ALPHA_FUNC, JV_TEST_ALWAYS, 0, 0, 0, 0).bits == 0x09000700 &&
+                       std::strcmp(JV_VERSION, "") != 0 && std::strcmp(jv_number_text(JV_DONE), "") != 0;
     const bool refuses = jv_read_word(0xFFFFFFFF).number == JV_NO_COMMAND &&
                          jv_write_word(JV_BEGIN, 0, 0, 0, 0, 0).number == JV_NO_MEANING;
-    const bool checks = is_answer(jv_check(clear_screen, 12, nullptr, 0, 480, 272, 65536), JV_DONE, 0, 3) &&
-                        is_answer(jv_check(clear_screen, 8, nullptr, 0, 480, 272, 65536), JV_PAST_END, 8, 2) &&
-                        is_answer(jv_check(clear_screen, 12, nullptr, 0, 480, 272, 2), JV_LIMIT_REACHED, 8, 2) &&
-                        is_answer(jv_check(clear_screen, 12, nullptr, 0, 801, 272, 65536), JV_BAD_FRAME, 0, 0);
+    const bool checks =
+        is_answer(jv_check(clear_screen, 12, nullptr, 0, 480, 272, JV_MAX_LIMIT), JV_DONE, 0, 3) &&
+        is_answer(jv_check(clear_screen, 8, nullptr, 0, 480, 272, JV_MAX_LIMIT), JV_PAST_END, 8, 2) &&
+        is_answer(jv_check(clear_screen, 12, nullptr, 0, 480, 272, 2), JV_LIMIT_REACHED, 8, 2) &&
+        is_answer(jv_check(clear_screen, 12, nullptr, 0, JV_MAX_WIDTH + 1, 272, JV_MAX_LIMIT), JV_BAD_FRAME, 0, 0);
 
     const bool paints = do_paint_calls_answer();
     const bool repaints = does_repaint_call_answer();
     const bool rings = do_ring_calls_answer();
 
-    std::printf("from C++: reading %s, writing %s, refusing %s, checking %s, painting %s, repainting %s, the ring %s\n",
-                reads ? "holds" : "FAILS", writes ? "holds" : "FAILS", refuses ? "holds" : "FAILS",
-                checks ? "holds" : "FAILS", paints ? "holds" : "FAILS", repaints ? "holds" : "FAILS",
-                rings ? "holds" : "FAILS");
-    return reads && writes && refuses && checks && paints && repaints && rings ? 0 : 1;
+    std::printf("from C++: reading %s, writing %s, naming %s, refusing %s, checking %s, painting %s, repainting %s, "
+                "the ring %s\n",
+                reads ? "holds" : "FAILS", writes ? "holds" : "FAILS", names ? "holds" : "FAILS",
+                refuses ? "holds" : "FAILS", checks ? "holds" : "FAILS", paints ? "holds" : "FAILS",
+                repaints ? "holds" : "FAILS", rings ? "holds" : "FAILS");
+    return reads && writes && names && refuses && checks && paints && repaints && rings ? 0 : 1;
 }

@@ -369,53 +369,51 @@ static const hand_picture lines_off_screen[] = {
 
 /* As long as a segment can be. */
 static const hand_picture longest_lines[] = {
-    { CASE("in a row"), LIST(LINES_OF(0), FAR_AT(-32768, 16), FAR_AT(32767, 16), DISPLAY()),
+    { CASE("in a row"), LIST(LINES_OF(0), FAR_AT(JV_MIN_END, 16), FAR_AT(JV_MAX_END, 16), DISPLAY()),
       SHOWS("...",
             "###",
             "...") },
-    { CASE("in a column"), LIST(LINES_OF(0), FAR_AT(16, 32767), FAR_AT(16, -32768), DISPLAY()),
+    { CASE("in a column"), LIST(LINES_OF(0), FAR_AT(16, JV_MAX_END), FAR_AT(16, JV_MIN_END), DISPLAY()),
       SHOWS(".#.",
             ".#.",
             ".#.") },
-    { CASE("a diagonal"), LIST(LINES_OF(0), FAR_AT(-32768, -32768), FAR_AT(32767, 32767), DISPLAY()),
+    { CASE("a diagonal"), LIST(LINES_OF(0), FAR_AT(JV_MIN_END, JV_MIN_END), FAR_AT(JV_MAX_END, JV_MAX_END), DISPLAY()),
       SHOWS("#..",
             ".#.",
             "..#") },
     { CASE("the other diagonal goes between (0, 0) and (-1, -1)"),
-      LIST(LINES_OF(0), FAR_AT(32767, -32768), FAR_AT(-32768, 32767), DISPLAY()),
+      LIST(LINES_OF(0), FAR_AT(JV_MAX_END, JV_MIN_END), FAR_AT(JV_MIN_END, JV_MAX_END), DISPLAY()),
       SHOWS("...",
             "...",
             "...") },
     { CASE("and is less than a sixteenth from (0, 0)"),
-      LIST(LINES_OF(1), FAR_AT(32767, -32768), FAR_AT(-32768, 32767), DISPLAY()),
+      LIST(LINES_OF(1), FAR_AT(JV_MAX_END, JV_MIN_END), FAR_AT(JV_MIN_END, JV_MAX_END), DISPLAY()),
       SHOWS("#..",
             "...",
             "...") },
     { CASE("one sixteenth less in height: no sample lies on it"),
-      LIST(LINES_OF(0), FAR_AT(-32768, -32768), FAR_AT(32767, 32766), DISPLAY()),
+      LIST(LINES_OF(0), FAR_AT(JV_MIN_END, JV_MIN_END), FAR_AT(JV_MAX_END, JV_MAX_END - 1), DISPLAY()),
       SHOWS("...",
             "...",
             "...") },
     { CASE("but some less than a sixteenth beside it"),
-      LIST(LINES_OF(1), FAR_AT(-32768, -32768), FAR_AT(32767, 32766), DISPLAY()),
+      LIST(LINES_OF(1), FAR_AT(JV_MIN_END, JV_MIN_END), FAR_AT(JV_MAX_END, JV_MAX_END - 1), DISPLAY()),
       SHOWS("#..",
             ".#.",
             "..#") },
     { CASE("the largest width from as far away"),
-      LIST(LINES_OF(4095), FAR_AT(32767, 4127), FAR_AT(-32768, 4127), DISPLAY()),
+      LIST(LINES_OF(4095), FAR_AT(JV_MAX_END, 4127), FAR_AT(JV_MIN_END, 4127), DISPLAY()),
       SHOWS("...",
             "...",
             "###") },
     { CASE("in a far corner, both ends equal"),
-      LIST(LINES_OF(4095), FAR_AT(-32768, 32767), FAR_AT(-32768, 32767), DISPLAY()),
+      LIST(LINES_OF(4095), FAR_AT(JV_MIN_END, JV_MAX_END), FAR_AT(JV_MIN_END, JV_MAX_END), DISPLAY()),
       SHOWS("...",
             "...",
             "...") },
 };
 
 /* ---- The longest lines over the largest frame ---- */
-
-enum { WIDEST = 800, HIGHEST = 600 };
 
 /* Twice the squared distance of pixel (x, y) from the line that the diagonal is part of: x = y for the one, and for the
    other x + y = -1 in sixteenths. */
@@ -434,23 +432,25 @@ static int64_t twice_from_other_diagonal(int64_t x, int64_t y)
 static void check_over_frame(const char *name, uint32_t width, const uint32_t *words, size_t count,
                              squared_distance *twice_from_line)
 {
-    static char signs[HIGHEST][WIDEST + 1];
-    static const char *rows[HIGHEST];
+    static char signs[JV_MAX_HEIGHT][JV_MAX_WIDTH + 1];
+    static const char *rows[JV_MAX_HEIGHT];
     int64_t twice_width = 2 * (int64_t)width * width;
-    for (int64_t y = 0; y < HIGHEST; y++) {
-        for (int64_t x = 0; x < WIDEST; x++)
+    for (int64_t y = 0; y < JV_MAX_HEIGHT; y++) {
+        for (int64_t x = 0; x < JV_MAX_WIDTH; x++)
             signs[y][x] = twice_from_line(x, y) <= twice_width ? '#' : '.';
         rows[y] = signs[y];
     }
     check_picture(__FILE__, &(const hand_picture){ CASE(name), .words = words, .count = count, .rows = rows,
-                                                   .height = HIGHEST });
+                                                   .height = JV_MAX_HEIGHT });
 }
 
 /* No end is near the frame, so every pixel has a place between the ends that is nearest to it. */
 static void check_diagonals(uint32_t width)
 {
-    const uint32_t down[] = { LINES_OF(width), FAR_AT(-32768, -32768), FAR_AT(32767, 32767), DISPLAY() };
-    const uint32_t up[] = { LINES_OF(width), FAR_AT(-32768, 32767), FAR_AT(32767, -32768), DISPLAY() };
+    const uint32_t down[] = { LINES_OF(width), FAR_AT(JV_MIN_END, JV_MIN_END), FAR_AT(JV_MAX_END, JV_MAX_END),
+                              DISPLAY() };
+    const uint32_t up[] = { LINES_OF(width), FAR_AT(JV_MIN_END, JV_MAX_END), FAR_AT(JV_MAX_END, JV_MIN_END),
+                            DISPLAY() };
     check_over_frame("a diagonal over the largest frame", width, down, LENGTH(down), twice_from_diagonal);
     check_over_frame("the other diagonal over the largest frame", width, up, LENGTH(up), twice_from_other_diagonal);
 }
@@ -510,7 +510,7 @@ static const hand_picture pairs_and_strips[] = {
             "..#.",
             "....") },
     { CASE("each segment is drawn by itself: what joins two is drawn twice"),
-      LIST(COLOR_RGB(1, 1, 1), BLEND_FUNC(1, 1), STRIP_OF(0), AT(0, 0), AT(2, 0), AT(2, 2), AT(0, 0), DISPLAY()),
+      LIST(COLOR_RGB(1, 1, 1), BLEND_FUNC(ONE, ONE), STRIP_OF(0), AT(0, 0), AT(2, 0), AT(2, 2), AT(0, 0), DISPLAY()),
       SHOWS("212",
             ".11",
             "..2"),
@@ -620,8 +620,8 @@ static const hand_picture settings[] = {
             "##..",
             "....") },
     { CASE("alpha test and blend"),
-      LIST(LINES_OF(0), ALPHA_FUNC(0, 0), BLEND_FUNC(0, 0), AT(0, 1), ALPHA_FUNC(7, 0), BLEND_FUNC(2, 4), AT(3, 1),
-           DISPLAY()),
+      LIST(LINES_OF(0), ALPHA_FUNC(NEVER, 0), BLEND_FUNC(ZERO, ZERO), AT(0, 1), ALPHA_FUNC(ALWAYS, 0),
+           BLEND_FUNC(SRC_ALPHA, ONE_MINUS_SRC_ALPHA), AT(3, 1), DISPLAY()),
       SHOWS("....",
             "####",
             "....") },

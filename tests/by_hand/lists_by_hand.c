@@ -13,7 +13,7 @@
 
 _Static_assert(sizeof(jv_answer) == 16, "a list's answer is four numbers");
 
-enum { LEAST_OF_EACH = 3, NUMBERS = 21, MOST_WORDS = MOST_LIST_BYTES / 4 };
+enum { LEAST_OF_EACH = 3, NUMBERS = JV_FAR_END + 1, MOST_WORDS = JV_MAX_LIST_BYTES / 4 };
 
 typedef struct {
     int line;
@@ -21,7 +21,7 @@ typedef struct {
     const uint32_t *words;
     size_t count;
     run_answer answer;
-    uint32_t limit;      /* 0 stands for 65536 */
+    uint32_t limit;      /* 0 stands for the largest */
     size_t ram_g_length;
 } hand_list;
 
@@ -45,8 +45,10 @@ static const hand_list drawn[] = {
     { CASE("zeros that the guide does not have"),
       LIST(TAG(0), LINE_WIDTH(0), POINT_SIZE(0), SCISSOR_SIZE(0, 0), CLEAR(0, 0, 0), DISPLAY()), GIVES(0, 0, 6) },
     { CASE("the largest values with a meaning"),
-      LIST(STENCIL_FUNC(7, 255, 255), ALPHA_FUNC(7, 255), BLEND_FUNC(5, 5), STENCIL_OP(5, 5), VERTEX_FORMAT(4),
-           SCISSOR_XY(2047, 2047), SCISSOR_SIZE(2048, 2048), BITMAP_HANDLE(31), CELL(127), BITMAP_SOURCE(4194303),
+      LIST(STENCIL_FUNC(ALWAYS, 255, 255), ALPHA_FUNC(ALWAYS, 255), STENCIL_OP(INVERT, INVERT),
+           BLEND_FUNC(ONE_MINUS_DST_ALPHA, ONE_MINUS_DST_ALPHA), VERTEX_FORMAT(JV_MAX_FRAC), SCISSOR_XY(2047, 2047),
+           SCISSOR_SIZE(JV_MAX_SCISSOR, JV_MAX_SCISSOR), BITMAP_HANDLE(JV_HANDLES - 1), CELL(127),
+           BITMAP_SOURCE(4194303),
            BITMAP_LAYOUT(RGB565, 1023, 511), BITMAP_LAYOUT_H(3, 3), BITMAP_SIZE(0, 0, 0, 511, 511),
            BITMAP_SIZE_H(3, 3), POINT_SIZE(8191), LINE_WIDTH(4095), VERTEX_TRANSLATE_X(-65536),
            VERTEX_TRANSLATE_Y(65535), DISPLAY()),
@@ -110,8 +112,10 @@ static const hand_list past_the_end[] = {
       GIVES(10, 12, 3) },
     { CASE("a jump to the list's end"), LIST(JUMP(8), DISPLAY()), GIVES(10, 8, 1) },
     { CASE("a jump past the end"), LIST(NOP(), JUMP(65532), DISPLAY()), GIVES(10, 65532, 2) },
-    { CASE("a call past the end"), LIST(CALL(8188), DISPLAY()), GIVES(10, 8188, 1) },
-    { CASE("a call to the first offset that no list has"), LIST(CALL(8192), DISPLAY()), GIVES(10, 8192, 1) },
+    { CASE("a call past the end"), LIST(CALL(JV_MAX_LIST_BYTES - 4), DISPLAY()),
+      GIVES(10, JV_MAX_LIST_BYTES - 4, 1) },
+    { CASE("a call to the first offset that no list has"), LIST(CALL(JV_MAX_LIST_BYTES), DISPLAY()),
+      GIVES(10, JV_MAX_LIST_BYTES, 1) },
     { CASE("a return to the list's end"), LIST(/* 0 */ JUMP(8), RETURN(), /* 8 */ CALL(4)), GIVES(10, 12, 3) },
     { CASE("a called stretch that runs off the end"), LIST(CALL(8), DISPLAY(), NOP()), GIVES(10, 12, 2) },
     { CASE("the end with one word of the limit left"), LIST(NOP()), GIVES_UNDER_LIMIT(2, 10, 4, 1) },
@@ -129,21 +133,22 @@ static const hand_list no_command[] = {
 
 static const hand_list no_meaning[] = {
     { CASE("document 01's example 5, scissor 2049 wide"), LIST(0x1C801800), GIVES(12, 0, 1) },
-    { CASE("scissor 2049 high"), LIST(SCISSOR_SIZE(0, 2049), DISPLAY()), GIVES(12, 0, 1) },
+    { CASE("a scissor too high by one"), LIST(SCISSOR_SIZE(0, JV_MAX_SCISSOR + 1), DISPLAY()), GIVES(12, 0, 1) },
     { CASE("scissor 4095 by 4095"), LIST(NOP(), SCISSOR_SIZE(4095, 4095), DISPLAY()), GIVES(12, 4, 2) },
-    { CASE("stencil function 8"), LIST(STENCIL_FUNC(8, 0, 0), DISPLAY()), GIVES(12, 0, 1) },
+    { CASE("stencil function 8"), LIST(STENCIL_FUNC(ALWAYS + 1, 0, 0), DISPLAY()), GIVES(12, 0, 1) },
     { CASE("stencil function 15"), LIST(NOP(), STENCIL_FUNC(15, 1, 2), DISPLAY()), GIVES(12, 4, 2) },
-    { CASE("stencil action 6 on failing"), LIST(STENCIL_OP(6, 1), DISPLAY()), GIVES(12, 0, 1) },
-    { CASE("stencil action 7 on passing"), LIST(STENCIL_OP(1, 7), DISPLAY()), GIVES(12, 0, 1) },
-    { CASE("blend factor 6 for the source"), LIST(BLEND_FUNC(6, 0), DISPLAY()), GIVES(12, 0, 1) },
-    { CASE("blend factor 7 for the target"), LIST(BLEND_FUNC(0, 7), DISPLAY()), GIVES(12, 0, 1) },
+    { CASE("stencil action 6 on failing"), LIST(STENCIL_OP(INVERT + 1, KEEP), DISPLAY()), GIVES(12, 0, 1) },
+    { CASE("stencil action 7 on passing"), LIST(STENCIL_OP(KEEP, 7), DISPLAY()), GIVES(12, 0, 1) },
+    { CASE("blend factor 6 for the source"), LIST(BLEND_FUNC(ONE_MINUS_DST_ALPHA + 1, ZERO), DISPLAY()),
+      GIVES(12, 0, 1) },
+    { CASE("blend factor 7 for the target"), LIST(BLEND_FUNC(ZERO, 7), DISPLAY()), GIVES(12, 0, 1) },
     { CASE("primitive 0"), LIST(BEGIN(0), DISPLAY()), GIVES(12, 0, 1) },
-    { CASE("primitive 10"), LIST(BEGIN(10), DISPLAY()), GIVES(12, 0, 1) },
+    { CASE("primitive 10"), LIST(BEGIN(RECTS + 1), DISPLAY()), GIVES(12, 0, 1) },
     { CASE("primitive 15"), LIST(BEGIN(15), DISPLAY()), GIVES(12, 0, 1) },
     { CASE("format 8"), LIST(BITMAP_LAYOUT(8, 1, 1), DISPLAY()), GIVES(12, 0, 1) },
     { CASE("format 12"), LIST(BITMAP_LAYOUT(12, 1, 1), DISPLAY()), GIVES(12, 0, 1) },
     { CASE("format 13"), LIST(BITMAP_LAYOUT(13, 1, 1), DISPLAY()), GIVES(12, 0, 1) },
-    { CASE("format 18"), LIST(BITMAP_LAYOUT(18, 1, 1), DISPLAY()), GIVES(12, 0, 1) },
+    { CASE("format 18"), LIST(BITMAP_LAYOUT(JV_FORMAT_L2 + 1, 1, 1), DISPLAY()), GIVES(12, 0, 1) },
     { CASE("format 31"), LIST(BITMAP_LAYOUT(31, 1, 1), DISPLAY()), GIVES(12, 0, 1) },
     { CASE("frac 5"), LIST(VERTEX_FORMAT(5), DISPLAY()), GIVES(12, 0, 1) },
     { CASE("frac 6"), LIST(VERTEX_FORMAT(6), DISPLAY()), GIVES(12, 0, 1) },
@@ -156,18 +161,18 @@ static const hand_list not_drawn[] = {
     { CASE("EDGE_STRIP_L"), LIST(BEGIN(EDGE_STRIP_L), DISPLAY()), GIVES(13, 0, 1) },
     { CASE("EDGE_STRIP_A"), LIST(BEGIN(EDGE_STRIP_A), DISPLAY()), GIVES(13, 0, 1) },
     { CASE("EDGE_STRIP_B"), LIST(BEGIN(EDGE_STRIP_B), DISPLAY()), GIVES(13, 0, 1) },
-    { CASE("format L1, with no vertex after it"), LIST(BITMAP_LAYOUT(1, 1, 1), DISPLAY()), GIVES(13, 0, 1) },
-    { CASE("format L4"), LIST(BITMAP_LAYOUT(2, 1, 1), DISPLAY()), GIVES(13, 0, 1) },
-    { CASE("format RGB332"), LIST(BITMAP_LAYOUT(4, 1, 1), DISPLAY()), GIVES(13, 0, 1) },
-    { CASE("format ARGB2"), LIST(BITMAP_LAYOUT(5, 1, 1), DISPLAY()), GIVES(13, 0, 1) },
-    { CASE("format ARGB4"), LIST(BITMAP_LAYOUT(6, 1, 1), DISPLAY()), GIVES(13, 0, 1) },
-    { CASE("format TEXT8X8"), LIST(BITMAP_LAYOUT(9, 1, 1), DISPLAY()), GIVES(13, 0, 1) },
-    { CASE("format TEXTVGA"), LIST(BITMAP_LAYOUT(10, 1, 1), DISPLAY()), GIVES(13, 0, 1) },
-    { CASE("format BARGRAPH"), LIST(BITMAP_LAYOUT(11, 1, 1), DISPLAY()), GIVES(13, 0, 1) },
-    { CASE("format PALETTED565"), LIST(BITMAP_LAYOUT(14, 1, 1), DISPLAY()), GIVES(13, 0, 1) },
-    { CASE("format PALETTED4444"), LIST(BITMAP_LAYOUT(15, 1, 1), DISPLAY()), GIVES(13, 0, 1) },
-    { CASE("format PALETTED8"), LIST(BITMAP_LAYOUT(16, 1, 1), DISPLAY()), GIVES(13, 0, 1) },
-    { CASE("format L2"), LIST(BITMAP_LAYOUT(17, 1, 1), DISPLAY()), GIVES(13, 0, 1) },
+    { CASE("format L1, with no vertex after it"), LIST(BITMAP_LAYOUT(JV_FORMAT_L1, 1, 1), DISPLAY()), GIVES(13, 0, 1) },
+    { CASE("format L4"), LIST(BITMAP_LAYOUT(JV_FORMAT_L4, 1, 1), DISPLAY()), GIVES(13, 0, 1) },
+    { CASE("format RGB332"), LIST(BITMAP_LAYOUT(JV_FORMAT_RGB332, 1, 1), DISPLAY()), GIVES(13, 0, 1) },
+    { CASE("format ARGB2"), LIST(BITMAP_LAYOUT(JV_FORMAT_ARGB2, 1, 1), DISPLAY()), GIVES(13, 0, 1) },
+    { CASE("format ARGB4"), LIST(BITMAP_LAYOUT(JV_FORMAT_ARGB4, 1, 1), DISPLAY()), GIVES(13, 0, 1) },
+    { CASE("format TEXT8X8"), LIST(BITMAP_LAYOUT(JV_FORMAT_TEXT8X8, 1, 1), DISPLAY()), GIVES(13, 0, 1) },
+    { CASE("format TEXTVGA"), LIST(BITMAP_LAYOUT(JV_FORMAT_TEXTVGA, 1, 1), DISPLAY()), GIVES(13, 0, 1) },
+    { CASE("format BARGRAPH"), LIST(BITMAP_LAYOUT(JV_FORMAT_BARGRAPH, 1, 1), DISPLAY()), GIVES(13, 0, 1) },
+    { CASE("format PALETTED565"), LIST(BITMAP_LAYOUT(JV_FORMAT_PALETTED565, 1, 1), DISPLAY()), GIVES(13, 0, 1) },
+    { CASE("format PALETTED4444"), LIST(BITMAP_LAYOUT(JV_FORMAT_PALETTED4444, 1, 1), DISPLAY()), GIVES(13, 0, 1) },
+    { CASE("format PALETTED8"), LIST(BITMAP_LAYOUT(JV_FORMAT_PALETTED8, 1, 1), DISPLAY()), GIVES(13, 0, 1) },
+    { CASE("format L2"), LIST(BITMAP_LAYOUT(JV_FORMAT_L2, 1, 1), DISPLAY()), GIVES(13, 0, 1) },
     { CASE("filter BILINEAR"), LIST(BITMAP_SIZE(1, 0, 0, 8, 8), DISPLAY()), GIVES(13, 0, 1) },
     { CASE("wrapx REPEAT"), LIST(BITMAP_SIZE(0, 1, 0, 8, 8), DISPLAY()), GIVES(13, 0, 1) },
     { CASE("wrapy REPEAT, though the next word takes it back"),
@@ -244,24 +249,24 @@ static const hand_list no_primitive[] = {
 static const hand_list ends[] = {
     { CASE("LINES, no vertex"), LIST(BEGIN(LINES), DISPLAY()), GIVES(0, 0, 2) },
     { CASE("LINE_STRIP, no vertex"), LIST(BEGIN(LINE_STRIP), DISPLAY()), GIVES(0, 0, 2) },
-    { CASE("LINES, first end farthest left"), FIRST_AT(LINES, -32768, 0), GIVES(0, 0, 8) },
-    { CASE("LINES, first end farthest right"), FIRST_AT(LINES, 32767, 0), GIVES(0, 0, 8) },
-    { CASE("LINES, first end farthest up"), FIRST_AT(LINES, 0, -32768), GIVES(0, 0, 8) },
-    { CASE("LINES, first end farthest down"), FIRST_AT(LINES, 0, 32767), GIVES(0, 0, 8) },
-    { CASE("LINES, second end farthest left"), SECOND_AT(LINES, -32768, 0), GIVES(0, 0, 8) },
-    { CASE("LINES, second end farthest right"), SECOND_AT(LINES, 32767, 0), GIVES(0, 0, 8) },
-    { CASE("LINES, second end farthest up"), SECOND_AT(LINES, 0, -32768), GIVES(0, 0, 8) },
-    { CASE("LINES, second end farthest down"), SECOND_AT(LINES, 0, 32767), GIVES(0, 0, 8) },
-    { CASE("a strip, first end farthest left"), FIRST_AT(LINE_STRIP, -32768, 0), GIVES(0, 0, 8) },
-    { CASE("a strip, first end farthest right"), FIRST_AT(LINE_STRIP, 32767, 0), GIVES(0, 0, 8) },
-    { CASE("a strip, first end farthest up"), FIRST_AT(LINE_STRIP, 0, -32768), GIVES(0, 0, 8) },
-    { CASE("a strip, first end farthest down"), FIRST_AT(LINE_STRIP, 0, 32767), GIVES(0, 0, 8) },
-    { CASE("a strip, second end farthest left"), SECOND_AT(LINE_STRIP, -32768, 0), GIVES(0, 0, 8) },
-    { CASE("a strip, second end farthest right"), SECOND_AT(LINE_STRIP, 32767, 0), GIVES(0, 0, 8) },
-    { CASE("a strip, second end farthest up"), SECOND_AT(LINE_STRIP, 0, -32768), GIVES(0, 0, 8) },
-    { CASE("a strip, second end farthest down"), SECOND_AT(LINE_STRIP, 0, 32767), GIVES(0, 0, 8) },
-    { CASE("from corner to corner"), LIST(BEGIN(LINES), END_AT(-32768, 32767), END_AT(32767, -32768), DISPLAY()),
-      GIVES(0, 0, 8) },
+    { CASE("LINES, first end farthest left"), FIRST_AT(LINES, JV_MIN_END, 0), GIVES(0, 0, 8) },
+    { CASE("LINES, first end farthest right"), FIRST_AT(LINES, JV_MAX_END, 0), GIVES(0, 0, 8) },
+    { CASE("LINES, first end farthest up"), FIRST_AT(LINES, 0, JV_MIN_END), GIVES(0, 0, 8) },
+    { CASE("LINES, first end farthest down"), FIRST_AT(LINES, 0, JV_MAX_END), GIVES(0, 0, 8) },
+    { CASE("LINES, second end farthest left"), SECOND_AT(LINES, JV_MIN_END, 0), GIVES(0, 0, 8) },
+    { CASE("LINES, second end farthest right"), SECOND_AT(LINES, JV_MAX_END, 0), GIVES(0, 0, 8) },
+    { CASE("LINES, second end farthest up"), SECOND_AT(LINES, 0, JV_MIN_END), GIVES(0, 0, 8) },
+    { CASE("LINES, second end farthest down"), SECOND_AT(LINES, 0, JV_MAX_END), GIVES(0, 0, 8) },
+    { CASE("a strip, first end farthest left"), FIRST_AT(LINE_STRIP, JV_MIN_END, 0), GIVES(0, 0, 8) },
+    { CASE("a strip, first end farthest right"), FIRST_AT(LINE_STRIP, JV_MAX_END, 0), GIVES(0, 0, 8) },
+    { CASE("a strip, first end farthest up"), FIRST_AT(LINE_STRIP, 0, JV_MIN_END), GIVES(0, 0, 8) },
+    { CASE("a strip, first end farthest down"), FIRST_AT(LINE_STRIP, 0, JV_MAX_END), GIVES(0, 0, 8) },
+    { CASE("a strip, second end farthest left"), SECOND_AT(LINE_STRIP, JV_MIN_END, 0), GIVES(0, 0, 8) },
+    { CASE("a strip, second end farthest right"), SECOND_AT(LINE_STRIP, JV_MAX_END, 0), GIVES(0, 0, 8) },
+    { CASE("a strip, second end farthest up"), SECOND_AT(LINE_STRIP, 0, JV_MIN_END), GIVES(0, 0, 8) },
+    { CASE("a strip, second end farthest down"), SECOND_AT(LINE_STRIP, 0, JV_MAX_END), GIVES(0, 0, 8) },
+    { CASE("from corner to corner"),
+      LIST(BEGIN(LINES), END_AT(JV_MIN_END, JV_MAX_END), END_AT(JV_MAX_END, JV_MIN_END), DISPLAY()), GIVES(0, 0, 8) },
     { CASE("2048 pixels to the left are 32768 sixteenths"),
       LIST(VERTEX_FORMAT(0), BEGIN(LINES), VERTEX2F(0, 0), VERTEX2F(-2048, 2047), DISPLAY()), GIVES(0, 0, 5) },
     { CASE("the largest numbers of VERTEX2F in eighths"),
@@ -273,17 +278,17 @@ static const hand_list ends[] = {
 
     /* A far end that no vertex completes. */
     { CASE("left open at DISPLAY"), LIST(BEGIN(LINES), END_AT(-65536, 65535), DISPLAY()), GIVES(0, 0, 5) },
-    { CASE("left open in a strip"), LIST(BEGIN(LINE_STRIP), END_AT(-32769, 0), DISPLAY()), GIVES(0, 0, 5) },
+    { CASE("left open in a strip"), LIST(BEGIN(LINE_STRIP), END_AT(JV_MIN_END - 1, 0), DISPLAY()), GIVES(0, 0, 5) },
     { CASE("left over after a pair"),
-      LIST(BEGIN(LINES), VERTEX2F(0, 0), VERTEX2F(9, 9), END_AT(32768, 0), DISPLAY()), GIVES(0, 0, 7) },
+      LIST(BEGIN(LINES), VERTEX2F(0, 0), VERTEX2F(9, 9), END_AT(JV_MAX_END + 1, 0), DISPLAY()), GIVES(0, 0, 7) },
     { CASE("dropped by BEGIN"),
-      LIST(BEGIN(LINES), END_AT(32768, 0), BEGIN(LINES), END_AT(0, 0), VERTEX2F(9, 9), DISPLAY()),
+      LIST(BEGIN(LINES), END_AT(JV_MAX_END + 1, 0), BEGIN(LINES), END_AT(0, 0), VERTEX2F(9, 9), DISPLAY()),
       GIVES(0, 0, 10) },
     { CASE("dropped by END"),
-      LIST(BEGIN(LINES), END_AT(0, 32768), END(), BEGIN(LINES), END_AT(0, 0), VERTEX2F(9, 9), DISPLAY()),
+      LIST(BEGIN(LINES), END_AT(0, JV_MAX_END + 1), END(), BEGIN(LINES), END_AT(0, 0), VERTEX2F(9, 9), DISPLAY()),
       GIVES(0, 0, 11) },
     { CASE("dropped for a strip"),
-      LIST(BEGIN(LINES), END_AT(0, -32769), BEGIN(LINE_STRIP), END_AT(0, 0), VERTEX2F(9, 9), DISPLAY()),
+      LIST(BEGIN(LINES), END_AT(0, JV_MIN_END - 1), BEGIN(LINE_STRIP), END_AT(0, 0), VERTEX2F(9, 9), DISPLAY()),
       GIVES(0, 0, 10) },
 
     /* Other primitives may lie anywhere. */
@@ -297,22 +302,22 @@ static const hand_list ends[] = {
 };
 
 static const hand_list far_ends[] = {
-    { CASE("LINES, first end one too far left"), FIRST_AT(LINES, -32769, 0), GIVES(20, 24, 7) },
-    { CASE("LINES, first end one too far right"), FIRST_AT(LINES, 32768, 0), GIVES(20, 24, 7) },
-    { CASE("LINES, first end one too far up"), FIRST_AT(LINES, 0, -32769), GIVES(20, 24, 7) },
-    { CASE("LINES, first end one too far down"), FIRST_AT(LINES, 0, 32768), GIVES(20, 24, 7) },
-    { CASE("LINES, second end one too far left"), SECOND_AT(LINES, -32769, 0), GIVES(20, 24, 7) },
-    { CASE("LINES, second end one too far right"), SECOND_AT(LINES, 32768, 0), GIVES(20, 24, 7) },
-    { CASE("LINES, second end one too far up"), SECOND_AT(LINES, 0, -32769), GIVES(20, 24, 7) },
-    { CASE("LINES, second end one too far down"), SECOND_AT(LINES, 0, 32768), GIVES(20, 24, 7) },
-    { CASE("a strip, first end one too far left"), FIRST_AT(LINE_STRIP, -32769, 0), GIVES(20, 24, 7) },
-    { CASE("a strip, first end one too far right"), FIRST_AT(LINE_STRIP, 32768, 0), GIVES(20, 24, 7) },
-    { CASE("a strip, first end one too far up"), FIRST_AT(LINE_STRIP, 0, -32769), GIVES(20, 24, 7) },
-    { CASE("a strip, first end one too far down"), FIRST_AT(LINE_STRIP, 0, 32768), GIVES(20, 24, 7) },
-    { CASE("a strip, second end one too far left"), SECOND_AT(LINE_STRIP, -32769, 0), GIVES(20, 24, 7) },
-    { CASE("a strip, second end one too far right"), SECOND_AT(LINE_STRIP, 32768, 0), GIVES(20, 24, 7) },
-    { CASE("a strip, second end one too far up"), SECOND_AT(LINE_STRIP, 0, -32769), GIVES(20, 24, 7) },
-    { CASE("a strip, second end one too far down"), SECOND_AT(LINE_STRIP, 0, 32768), GIVES(20, 24, 7) },
+    { CASE("LINES, first end one too far left"), FIRST_AT(LINES, JV_MIN_END - 1, 0), GIVES(20, 24, 7) },
+    { CASE("LINES, first end one too far right"), FIRST_AT(LINES, JV_MAX_END + 1, 0), GIVES(20, 24, 7) },
+    { CASE("LINES, first end one too far up"), FIRST_AT(LINES, 0, JV_MIN_END - 1), GIVES(20, 24, 7) },
+    { CASE("LINES, first end one too far down"), FIRST_AT(LINES, 0, JV_MAX_END + 1), GIVES(20, 24, 7) },
+    { CASE("LINES, second end one too far left"), SECOND_AT(LINES, JV_MIN_END - 1, 0), GIVES(20, 24, 7) },
+    { CASE("LINES, second end one too far right"), SECOND_AT(LINES, JV_MAX_END + 1, 0), GIVES(20, 24, 7) },
+    { CASE("LINES, second end one too far up"), SECOND_AT(LINES, 0, JV_MIN_END - 1), GIVES(20, 24, 7) },
+    { CASE("LINES, second end one too far down"), SECOND_AT(LINES, 0, JV_MAX_END + 1), GIVES(20, 24, 7) },
+    { CASE("a strip, first end one too far left"), FIRST_AT(LINE_STRIP, JV_MIN_END - 1, 0), GIVES(20, 24, 7) },
+    { CASE("a strip, first end one too far right"), FIRST_AT(LINE_STRIP, JV_MAX_END + 1, 0), GIVES(20, 24, 7) },
+    { CASE("a strip, first end one too far up"), FIRST_AT(LINE_STRIP, 0, JV_MIN_END - 1), GIVES(20, 24, 7) },
+    { CASE("a strip, first end one too far down"), FIRST_AT(LINE_STRIP, 0, JV_MAX_END + 1), GIVES(20, 24, 7) },
+    { CASE("a strip, second end one too far left"), SECOND_AT(LINE_STRIP, JV_MIN_END - 1, 0), GIVES(20, 24, 7) },
+    { CASE("a strip, second end one too far right"), SECOND_AT(LINE_STRIP, JV_MAX_END + 1, 0), GIVES(20, 24, 7) },
+    { CASE("a strip, second end one too far up"), SECOND_AT(LINE_STRIP, 0, JV_MIN_END - 1), GIVES(20, 24, 7) },
+    { CASE("a strip, second end one too far down"), SECOND_AT(LINE_STRIP, 0, JV_MAX_END + 1), GIVES(20, 24, 7) },
     { CASE("both ends, in the same place"), LIST(BEGIN(LINES), END_AT(40000, 0), VERTEX2F(0, 0), DISPLAY()),
       GIVES(20, 16, 5) },
     { CASE("as far away as a vertex can be"),
@@ -327,19 +332,20 @@ static const hand_list far_ends[] = {
       LIST(VERTEX_TRANSLATE_X(24592), BEGIN(LINES), VERTEX2II(0, 0, 0, 0), VERTEX2II(511, 0, 0, 0), DISPLAY()),
       GIVES(20, 12, 4) },
     { CASE("the third vertex of a strip"),
-      LIST(BEGIN(LINE_STRIP), VERTEX2F(0, 0), VERTEX2F(9, 9), END_AT(0, 32768), DISPLAY()), GIVES(20, 20, 6) },
+      LIST(BEGIN(LINE_STRIP), VERTEX2F(0, 0), VERTEX2F(9, 9), END_AT(0, JV_MAX_END + 1), DISPLAY()), GIVES(20, 20, 6) },
     { CASE("the third of LINES, at the fourth"),
-      LIST(BEGIN(LINES), VERTEX2F(0, 0), VERTEX2F(9, 9), END_AT(0, 32768), END_AT(0, 0), DISPLAY()), GIVES(20, 32, 9) },
+      LIST(BEGIN(LINES), VERTEX2F(0, 0), VERTEX2F(9, 9), END_AT(0, JV_MAX_END + 1), END_AT(0, 0), DISPLAY()),
+      GIVES(20, 32, 9) },
     { CASE("whatever the scissor says"),
-      LIST(SCISSOR_SIZE(0, 0), BEGIN(LINES), VERTEX2F(0, 0), END_AT(32768, 0), DISPLAY()), GIVES(20, 20, 6) },
+      LIST(SCISSOR_SIZE(0, 0), BEGIN(LINES), VERTEX2F(0, 0), END_AT(JV_MAX_END + 1, 0), DISPLAY()), GIVES(20, 20, 6) },
     { CASE("a save and a restore do not drop it"),
-      LIST(SAVE_CONTEXT(), BEGIN(LINES), END_AT(-32769, 0), RESTORE_CONTEXT(), VERTEX2F(0, 0), DISPLAY()),
+      LIST(SAVE_CONTEXT(), BEGIN(LINES), END_AT(JV_MIN_END - 1, 0), RESTORE_CONTEXT(), VERTEX2F(0, 0), DISPLAY()),
       GIVES(20, 24, 7) },
     { CASE("at a vertex in a called stretch"),
-      LIST(/* 0 */ BEGIN(LINES), END_AT(0, 32768), CALL(24), DISPLAY(), /* 24 */ END_AT(0, 0), RETURN()),
+      LIST(/* 0 */ BEGIN(LINES), END_AT(0, JV_MAX_END + 1), CALL(24), DISPLAY(), /* 24 */ END_AT(0, 0), RETURN()),
       GIVES(20, 32, 8) },
-    { CASE("at the limit's last word"), FIRST_AT(LINES, 32768, 0), GIVES_UNDER_LIMIT(7, 20, 24, 7) },
-    { CASE("19 before 20"), FIRST_AT(LINES, 32768, 0), GIVES_UNDER_LIMIT(6, 19, 24, 6) },
+    { CASE("at the limit's last word"), FIRST_AT(LINES, JV_MAX_END + 1, 0), GIVES_UNDER_LIMIT(7, 20, 24, 7) },
+    { CASE("19 before 20"), FIRST_AT(LINES, JV_MAX_END + 1, 0), GIVES_UNDER_LIMIT(6, 19, 24, 6) },
     { CASE("17 before 20: nothing is begun"), LIST(END_AT(-65536, 65535), VERTEX2F(0, 0), DISPLAY()), GIVES(17, 8, 3) },
     { CASE("17 before 20: after END"),
       LIST(BEGIN(LINES), END_AT(-65536, 65535), END(), VERTEX2F(0, 0), DISPLAY()), GIVES(17, 20, 6) },
@@ -362,12 +368,12 @@ static const hand_list bitmaps[] = {
       GIVES(18, 16, 5) },
     { CASE("the last bytes of the largest RAM_G"),
       LIST(SMALL_BITMAP_AT(1048512), BEGIN(BITMAPS), VERTEX2F(0, 0), DISPLAY()),
-      GIVES_WITH_RAM_G(1048576, 0, 0, 6) },
+      GIVES_WITH_RAM_G(JV_MAX_RAM_G_BYTES, 0, 0, 6) },
     { CASE("one byte past the largest RAM_G"),
       LIST(SMALL_BITMAP_AT(1048513), BEGIN(BITMAPS), VERTEX2F(0, 0), DISPLAY()),
-      GIVES_WITH_RAM_G(1048576, 18, 16, 5) },
+      GIVES_WITH_RAM_G(JV_MAX_RAM_G_BYTES, 18, 16, 5) },
     { CASE("a source past RAM_G"), LIST(SMALL_BITMAP_AT(4194303), BEGIN(BITMAPS), VERTEX2F(0, 0), DISPLAY()),
-      GIVES_WITH_RAM_G(1048576, 18, 16, 5) },
+      GIVES_WITH_RAM_G(JV_MAX_RAM_G_BYTES, 18, 16, 5) },
     { CASE("VERTEX2II's cell 3 from source 10"),
       LIST(SMALL_BITMAP_AT(10), BEGIN(BITMAPS), VERTEX2II(0, 0, 0, 3), DISPLAY()), GIVES_WITH_RAM_G(266, 0, 0, 6) },
     { CASE("VERTEX2II's cell 3 from source 10, one byte past"),
@@ -394,23 +400,23 @@ static const hand_list bitmaps[] = {
     { CASE("cell 15 ends where 20 bits end"),
       LIST(BITMAP_SOURCE(0), BITMAP_LAYOUT(L8, 0, 64), BITMAP_LAYOUT_H(1, 0), BITMAP_SIZE(0, 0, 0, 8, 8),
            BEGIN(BITMAPS), VERTEX2II(0, 0, 0, 15), DISPLAY()),
-      GIVES_WITH_RAM_G(1048576, 0, 0, 7) },
+      GIVES_WITH_RAM_G(JV_MAX_RAM_G_BYTES, 0, 0, 7) },
     { CASE("cell 16 starts where 20 bits wrap"),
       LIST(BITMAP_SOURCE(0), BITMAP_LAYOUT(L8, 0, 64), BITMAP_LAYOUT_H(1, 0), BITMAP_SIZE(0, 0, 0, 8, 8),
            BEGIN(BITMAPS), VERTEX2II(0, 0, 0, 16), DISPLAY()),
-      GIVES_WITH_RAM_G(1048576, 18, 20, 6) },
+      GIVES_WITH_RAM_G(JV_MAX_RAM_G_BYTES, 18, 20, 6) },
     { CASE("cell 64 starts where the 22 bits of an address wrap"),
       LIST(BITMAP_SOURCE(0), BITMAP_LAYOUT(L8, 0, 64), BITMAP_LAYOUT_H(1, 0), BITMAP_SIZE(0, 0, 0, 8, 8),
            BEGIN(BITMAPS), VERTEX2II(0, 0, 0, 64), DISPLAY()),
-      GIVES_WITH_RAM_G(1048576, 18, 20, 6) },
+      GIVES_WITH_RAM_G(JV_MAX_RAM_G_BYTES, 18, 20, 6) },
     { CASE("source and cell together start where the 22 bits wrap"),
       LIST(BITMAP_SOURCE(4194303), BITMAP_LAYOUT(L8, 1, 1), BITMAP_SIZE(0, 0, 0, 1, 1), BEGIN(BITMAPS),
            VERTEX2II(0, 0, 0, 1), DISPLAY()),
-      GIVES_WITH_RAM_G(1048576, 18, 16, 5) },
+      GIVES_WITH_RAM_G(JV_MAX_RAM_G_BYTES, 18, 16, 5) },
     { CASE("the largest cell number of the largest cell"),
       LIST(BITMAP_SOURCE(4194302), BITMAP_LAYOUT(L8, 1023, 511), BITMAP_LAYOUT_H(3, 3), BITMAP_SIZE(0, 0, 0, 8, 8),
            BEGIN(BITMAPS), VERTEX2II(0, 0, 0, 127), DISPLAY()),
-      GIVES_WITH_RAM_G(1048576, 18, 20, 6) },
+      GIVES_WITH_RAM_G(JV_MAX_RAM_G_BYTES, 18, 20, 6) },
     { CASE("a cell larger than 16 bits count, inside RAM_G"),
       LIST(BITMAP_SOURCE(0), BITMAP_LAYOUT(L8, 512, 256), BITMAP_SIZE(0, 0, 0, 8, 8), BEGIN(BITMAPS),
            VERTEX2II(0, 0, 0, 0), DISPLAY()),
@@ -426,26 +432,26 @@ static const hand_list bitmaps[] = {
 
     /* What is not set. */
     { CASE("nothing set"), LIST(BEGIN(BITMAPS), VERTEX2II(0, 0, 7, 0), DISPLAY()),
-      GIVES_WITH_RAM_G(1048576, 18, 4, 2) },
+      GIVES_WITH_RAM_G(JV_MAX_RAM_G_BYTES, 18, 4, 2) },
     { CASE("source not set"),
       LIST(BITMAP_LAYOUT(L8, 8, 8), BITMAP_SIZE(0, 0, 0, 8, 8), BEGIN(BITMAPS), VERTEX2II(0, 0, 0, 0), DISPLAY()),
-      GIVES_WITH_RAM_G(1048576, 18, 12, 4) },
+      GIVES_WITH_RAM_G(JV_MAX_RAM_G_BYTES, 18, 12, 4) },
     { CASE("layout not set"),
       LIST(BITMAP_SOURCE(0), BITMAP_SIZE(0, 0, 0, 8, 8), BEGIN(BITMAPS), VERTEX2II(0, 0, 0, 0), DISPLAY()),
-      GIVES_WITH_RAM_G(1048576, 18, 12, 4) },
+      GIVES_WITH_RAM_G(JV_MAX_RAM_G_BYTES, 18, 12, 4) },
     { CASE("size not set"),
       LIST(BITMAP_SOURCE(0), BITMAP_LAYOUT(L8, 8, 8), BEGIN(BITMAPS), VERTEX2II(0, 0, 0, 0), DISPLAY()),
-      GIVES_WITH_RAM_G(1048576, 18, 12, 4) },
+      GIVES_WITH_RAM_G(JV_MAX_RAM_G_BYTES, 18, 12, 4) },
     { CASE("BITMAP_LAYOUT_H alone sets no layout"),
       LIST(BITMAP_SOURCE(0), BITMAP_LAYOUT_H(1, 1), BITMAP_SIZE(0, 0, 0, 8, 8), BEGIN(BITMAPS), VERTEX2F(0, 0),
            DISPLAY()),
-      GIVES_WITH_RAM_G(1048576, 18, 16, 5) },
+      GIVES_WITH_RAM_G(JV_MAX_RAM_G_BYTES, 18, 16, 5) },
     { CASE("BITMAP_SIZE_H alone sets no size"),
       LIST(BITMAP_SOURCE(0), BITMAP_LAYOUT(L8, 8, 8), BITMAP_SIZE_H(1, 1), BEGIN(BITMAPS), VERTEX2F(0, 0), DISPLAY()),
-      GIVES_WITH_RAM_G(1048576, 18, 16, 5) },
+      GIVES_WITH_RAM_G(JV_MAX_RAM_G_BYTES, 18, 16, 5) },
     { CASE("a handle that another one's settings do not set up"),
       LIST(BITMAP_HANDLE(15), SMALL_BITMAP_AT(0), BEGIN(BITMAPS), VERTEX2II(0, 0, 31, 0), DISPLAY()),
-      GIVES_WITH_RAM_G(1048576, 18, 20, 6) },
+      GIVES_WITH_RAM_G(JV_MAX_RAM_G_BYTES, 18, 20, 6) },
     { CASE("handle 31, which is no font here, set up"),
       LIST(BITMAP_HANDLE(31), SMALL_BITMAP_AT(0), BEGIN(BITMAPS), VERTEX2II(0, 0, 31, 0), DISPLAY()),
       GIVES_WITH_RAM_G(64, 0, 0, 7) },
@@ -460,16 +466,16 @@ static const hand_list bitmaps[] = {
     /* Zeros, and the bits of the H words. */
     { CASE("stride 0"),
       LIST(BITMAP_SOURCE(0), BITMAP_LAYOUT(L8, 0, 8), BITMAP_SIZE(0, 0, 0, 8, 8), BEGIN(BITMAPS), VERTEX2F(0, 0)),
-      GIVES_WITH_RAM_G(1048576, 18, 16, 5) },
+      GIVES_WITH_RAM_G(JV_MAX_RAM_G_BYTES, 18, 16, 5) },
     { CASE("layout height 0"),
       LIST(BITMAP_SOURCE(0), BITMAP_LAYOUT(L8, 8, 0), BITMAP_SIZE(0, 0, 0, 8, 8), BEGIN(BITMAPS), VERTEX2F(0, 0)),
-      GIVES_WITH_RAM_G(1048576, 18, 16, 5) },
+      GIVES_WITH_RAM_G(JV_MAX_RAM_G_BYTES, 18, 16, 5) },
     { CASE("drawn width 0, which the guide calls 2048"),
       LIST(BITMAP_SOURCE(0), BITMAP_LAYOUT(L8, 8, 8), BITMAP_SIZE(0, 0, 0, 0, 8), BEGIN(BITMAPS), VERTEX2F(0, 0)),
-      GIVES_WITH_RAM_G(1048576, 18, 16, 5) },
+      GIVES_WITH_RAM_G(JV_MAX_RAM_G_BYTES, 18, 16, 5) },
     { CASE("drawn height 0, which the guide calls 2048"),
       LIST(BITMAP_SOURCE(0), BITMAP_LAYOUT(L8, 8, 8), BITMAP_SIZE(0, 0, 0, 8, 0), BEGIN(BITMAPS), VERTEX2F(0, 0)),
-      GIVES_WITH_RAM_G(1048576, 18, 16, 5) },
+      GIVES_WITH_RAM_G(JV_MAX_RAM_G_BYTES, 18, 16, 5) },
     { CASE("stride 1024: low bits 0, high bits not"),
       LIST(BITMAP_SOURCE(0), BITMAP_LAYOUT(L8, 0, 1), BITMAP_LAYOUT_H(1, 0), BITMAP_SIZE(0, 0, 0, 8, 8),
            BEGIN(BITMAPS), VERTEX2F(0, 0), DISPLAY()),
@@ -522,18 +528,18 @@ static const hand_list bitmaps[] = {
     /* Two bytes a pixel. */
     { CASE("RGB565 from an odd source"),
       LIST(BITMAP_SOURCE(1), BITMAP_LAYOUT(RGB565, 8, 8), BITMAP_SIZE(0, 0, 0, 4, 8), BEGIN(BITMAPS), VERTEX2F(0, 0)),
-      GIVES_WITH_RAM_G(1048576, 18, 16, 5) },
+      GIVES_WITH_RAM_G(JV_MAX_RAM_G_BYTES, 18, 16, 5) },
     { CASE("RGB565 with an odd stride"),
       LIST(BITMAP_SOURCE(0), BITMAP_LAYOUT(RGB565, 7, 8), BITMAP_SIZE(0, 0, 0, 4, 8), BEGIN(BITMAPS), VERTEX2F(0, 0)),
-      GIVES_WITH_RAM_G(1048576, 18, 16, 5) },
+      GIVES_WITH_RAM_G(JV_MAX_RAM_G_BYTES, 18, 16, 5) },
     { CASE("ARGB1555 from an odd source"),
       LIST(BITMAP_SOURCE(65537), BITMAP_LAYOUT(ARGB1555, 8, 8), BITMAP_SIZE(0, 0, 0, 4, 8), BEGIN(BITMAPS),
            VERTEX2F(0, 0)),
-      GIVES_WITH_RAM_G(1048576, 18, 16, 5) },
+      GIVES_WITH_RAM_G(JV_MAX_RAM_G_BYTES, 18, 16, 5) },
     { CASE("ARGB1555 with an odd stride of 1025, which lines of an even number make even"),
       LIST(BITMAP_SOURCE(0), BITMAP_LAYOUT(ARGB1555, 1, 8), BITMAP_LAYOUT_H(1, 0), BITMAP_SIZE(0, 0, 0, 4, 8),
            BEGIN(BITMAPS), VERTEX2F(0, 0)),
-      GIVES_WITH_RAM_G(1048576, 18, 20, 6) },
+      GIVES_WITH_RAM_G(JV_MAX_RAM_G_BYTES, 18, 20, 6) },
     { CASE("RGB565 from an even source with an even stride"),
       LIST(BITMAP_SOURCE(2), BITMAP_LAYOUT(RGB565, 6, 3), BITMAP_SIZE(0, 0, 0, 3, 3), BEGIN(BITMAPS), VERTEX2F(0, 0),
            DISPLAY()),
@@ -552,7 +558,7 @@ static const hand_list bitmaps[] = {
     { CASE("off the screen, under an empty scissor and with all masks 0"),
       LIST(SCISSOR_SIZE(0, 0), COLOR_MASK(0, 0, 0, 0), STENCIL_MASK(0), TAG_MASK(0), COLOR_A(0), BEGIN(BITMAPS),
            VERTEX2F(-16384, -16384), DISPLAY()),
-      GIVES_WITH_RAM_G(1048576, 18, 24, 7) },
+      GIVES_WITH_RAM_G(JV_MAX_RAM_G_BYTES, 18, 24, 7) },
     { CASE("POINTS begun after BITMAPS"), LIST(BEGIN(BITMAPS), BEGIN(POINTS), VERTEX2II(0, 0, 9, 9), DISPLAY()),
       GIVES(0, 0, 4) },
     { CASE("BITMAPS begun after POINTS"), LIST(BEGIN(POINTS), BEGIN(BITMAPS), VERTEX2II(0, 0, 9, 9), DISPLAY()),
@@ -606,9 +612,10 @@ static const hand_list limit_reached[] = {
     { CASE("19 before 10: after a jump past the end"), LIST(JUMP(65532)), GIVES_UNDER_LIMIT(1, 19, 65532, 1) },
     { CASE("19 before 11: the next word is no command"), LIST(NOP(), 0xFFFFFFFF), GIVES_UNDER_LIMIT(1, 19, 4, 1) },
     { CASE("19 before 14: the next word is a fifth call"), LIST(CALL(0)), GIVES_UNDER_LIMIT(4, 19, 0, 4) },
-    { CASE("an endless loop under the largest limit"), LIST(NOP(), JUMP(0)), GIVES_UNDER_LIMIT(65536, 19, 0, 65536) },
+    { CASE("an endless loop under the largest limit"), LIST(NOP(), JUMP(0)),
+      GIVES_UNDER_LIMIT(JV_MAX_LIMIT, 19, 0, JV_MAX_LIMIT) },
     { CASE("an endless loop under the largest limit less one"), LIST(NOP(), JUMP(0)),
-      GIVES_UNDER_LIMIT(65535, 19, 4, 65535) },
+      GIVES_UNDER_LIMIT(JV_MAX_LIMIT - 1, 19, 4, JV_MAX_LIMIT - 1) },
     { CASE("within a called stretch"), LIST(/* 0 */ CALL(8), DISPLAY(), /* 8 */ NOP(), RETURN()),
       GIVES_UNDER_LIMIT(3, 19, 4, 3) },
 };
@@ -634,7 +641,7 @@ static void check_answer(int line, const char *name, const run_request *request,
 static void check_words(int line, const char *name, const uint32_t *words, size_t count, uint32_t limit,
                         size_t ram_g_length, run_answer want)
 {
-    static uint8_t list[MOST_LIST_BYTES];
+    static uint8_t list[JV_MAX_LIST_BYTES];
     put_words(list, words, count);
     run_request request = { list, 4 * count, ram_g_length, 480, 272, limit };
     check_answer(line, name, &request, want);
@@ -646,32 +653,33 @@ static void check_table(const char *part, const hand_list *table, size_t count)
 {
     begin_part(part);
     for (const hand_list *h = table; h < table + count; h++)
-        check_words(h->line, h->name, h->words, h->count, h->limit != 0 ? h->limit : 65536, h->ram_g_length,
+        check_words(h->line, h->name, h->words, h->count, h->limit != 0 ? h->limit : JV_MAX_LIMIT, h->ram_g_length,
                     h->answer);
 }
 
 static void check_long_lists(void)
 {
     static uint32_t words[MOST_WORDS];
-    begin_part("lists of 8192 bytes");
+    begin_part("the longest lists");
     for (size_t n = 0; n < MOST_WORDS; n++)
         words[n] = NOP();
-    check_words(__LINE__, "no DISPLAY", words, MOST_WORDS, 65536, 0, (run_answer){ 10, 8192, 2048 });
-    check_words(__LINE__, "no DISPLAY, and the limit used up", words, MOST_WORDS, 2048, 0,
-                (run_answer){ 19, 8192, 2048 });
+    check_words(__LINE__, "no DISPLAY", words, MOST_WORDS, JV_MAX_LIMIT, 0,
+                (run_answer){ 10, JV_MAX_LIST_BYTES, MOST_WORDS });
+    check_words(__LINE__, "no DISPLAY, and the limit used up", words, MOST_WORDS, MOST_WORDS, 0,
+                (run_answer){ 19, JV_MAX_LIST_BYTES, MOST_WORDS });
     words[MOST_WORDS - 1] = DISPLAY();
-    check_words(__LINE__, "DISPLAY last", words, MOST_WORDS, 65536, 0, (run_answer){ 0, 0, 2048 });
-    check_words(__LINE__, "DISPLAY last and the limit's last", words, MOST_WORDS, 2048, 0,
-                (run_answer){ 0, 0, 2048 });
-    check_words(__LINE__, "one word more than the limit", words, MOST_WORDS, 2047, 0,
-                (run_answer){ 19, 8188, 2047 });
-    words[0] = JUMP(8188);
-    check_words(__LINE__, "a jump to the last word", words, MOST_WORDS, 65536, 0, (run_answer){ 0, 0, 2 });
-    words[0] = CALL(8184);
+    check_words(__LINE__, "DISPLAY last", words, MOST_WORDS, JV_MAX_LIMIT, 0, (run_answer){ 0, 0, MOST_WORDS });
+    check_words(__LINE__, "DISPLAY last and the limit's last", words, MOST_WORDS, MOST_WORDS, 0,
+                (run_answer){ 0, 0, MOST_WORDS });
+    check_words(__LINE__, "one word more than the limit", words, MOST_WORDS, MOST_WORDS - 1, 0,
+                (run_answer){ 19, JV_MAX_LIST_BYTES - 4, MOST_WORDS - 1 });
+    words[0] = JUMP(JV_MAX_LIST_BYTES - 4);
+    check_words(__LINE__, "a jump to the last word", words, MOST_WORDS, JV_MAX_LIMIT, 0, (run_answer){ 0, 0, 2 });
+    words[0] = CALL(JV_MAX_LIST_BYTES - 8);
     words[MOST_WORDS - 2] = RETURN();
-    words[1] = JUMP(8192);
-    check_words(__LINE__, "a jump to one past the last word", words, MOST_WORDS, 65536, 0,
-                (run_answer){ 10, 8192, 3 });
+    words[1] = JUMP(JV_MAX_LIST_BYTES);
+    check_words(__LINE__, "a jump to one past the last word", words, MOST_WORDS, JV_MAX_LIMIT, 0,
+                (run_answer){ 10, JV_MAX_LIST_BYTES, 3 });
 }
 
 typedef struct {
@@ -685,53 +693,54 @@ typedef struct {
 /* Each list is so many bytes of 0, that is, words of DISPLAY. */
 static const measure measures[] = {
     { CASE("the smallest of everything"), 1, 1, 4, 0, 1, 0 },
-    { CASE("the largest of everything"), 800, 600, 8192, 1048576, 65536, 0 },
+    { CASE("the largest of everything"), JV_MAX_WIDTH, JV_MAX_HEIGHT, JV_MAX_LIST_BYTES, JV_MAX_RAM_G_BYTES,
+      JV_MAX_LIMIT, 0 },
     { CASE("an ordinary panel"), 480, 272, 1024, 65536, 4096, 0 },
 
-    { CASE("width 800"), 800, 272, 4, 0, 9, 0 },
-    { CASE("width 801"), 801, 272, 4, 0, 9, 1 },
+    { CASE("the largest width"), JV_MAX_WIDTH, 272, 4, 0, 9, 0 },
+    { CASE("a width too large by one"), JV_MAX_WIDTH + 1, 272, 4, 0, 9, 1 },
     { CASE("width 0"), 0, 272, 4, 0, 9, 1 },
     { CASE("width 2^32 - 1"), 0xFFFFFFFF, 272, 4, 0, 9, 1 },
-    { CASE("height 600"), 480, 600, 4, 0, 9, 0 },
-    { CASE("height 601"), 480, 601, 4, 0, 9, 1 },
+    { CASE("the largest height"), 480, JV_MAX_HEIGHT, 4, 0, 9, 0 },
+    { CASE("a height too large by one"), 480, JV_MAX_HEIGHT + 1, 4, 0, 9, 1 },
     { CASE("height 0"), 480, 0, 4, 0, 9, 1 },
     { CASE("height 2^32 - 1"), 480, 0xFFFFFFFF, 4, 0, 9, 1 },
-    { CASE("the largest panel turned by a quarter"), 600, 800, 4, 0, 9, 1 },
+    { CASE("the largest panel turned by a quarter"), JV_MAX_HEIGHT, JV_MAX_WIDTH, 4, 0, 9, 1 },
 
     { CASE("an empty list"), 480, 272, 0, 0, 9, 2 },
     { CASE("a list of 1 byte"), 480, 272, 1, 0, 9, 2 },
     { CASE("a list of 2 bytes"), 480, 272, 2, 0, 9, 2 },
-    { CASE("a list of 3 bytes"), 480, 272, 3, 0, 9, 2 },
-    { CASE("a list of 4 bytes"), 480, 272, 4, 0, 9, 0 },
+    { CASE("a list too short by a byte"), 480, 272, JV_MIN_LIST_BYTES - 1, 0, 9, 2 },
+    { CASE("the shortest list"), 480, 272, JV_MIN_LIST_BYTES, 0, 9, 0 },
     { CASE("a list of 5 bytes"), 480, 272, 5, 0, 9, 2 },
     { CASE("a list of 6 bytes"), 480, 272, 6, 0, 9, 2 },
     { CASE("a list of 7 bytes"), 480, 272, 7, 0, 9, 2 },
-    { CASE("a list of 8188 bytes"), 480, 272, 8188, 0, 9, 0 },
-    { CASE("a list of 8191 bytes"), 480, 272, 8191, 0, 9, 2 },
-    { CASE("a list of 8192 bytes"), 480, 272, 8192, 0, 9, 0 },
-    { CASE("a list of 8193 bytes"), 480, 272, 8193, 0, 9, 2 },
-    { CASE("a list of 8196 bytes"), 480, 272, 8196, 0, 9, 2 },
+    { CASE("a list shorter than the longest by a word"), 480, 272, JV_MAX_LIST_BYTES - 4, 0, 9, 0 },
+    { CASE("shorter by a byte"), 480, 272, JV_MAX_LIST_BYTES - 1, 0, 9, 2 },
+    { CASE("the longest list"), 480, 272, JV_MAX_LIST_BYTES, 0, 9, 0 },
+    { CASE("a list too long by a byte"), 480, 272, JV_MAX_LIST_BYTES + 1, 0, 9, 2 },
+    { CASE("a list too long by a word"), 480, 272, JV_MAX_LIST_BYTES + 4, 0, 9, 2 },
     { CASE("a list of 65536 bytes"), 480, 272, 65536, 0, 9, 2 },
 
     { CASE("RAM_G of 1 byte"), 480, 272, 4, 1, 9, 0 },
-    { CASE("RAM_G of 1048575 bytes"), 480, 272, 4, 1048575, 9, 0 },
-    { CASE("RAM_G of 1048576 bytes"), 480, 272, 4, 1048576, 9, 0 },
-    { CASE("RAM_G of 1048577 bytes"), 480, 272, 4, 1048577, 9, 3 },
+    { CASE("RAM_G shorter than the longest by a byte"), 480, 272, 4, JV_MAX_RAM_G_BYTES - 1, 9, 0 },
+    { CASE("the longest RAM_G"), 480, 272, 4, JV_MAX_RAM_G_BYTES, 9, 0 },
+    { CASE("RAM_G too long by a byte"), 480, 272, 4, JV_MAX_RAM_G_BYTES + 1, 9, 3 },
 
     { CASE("limit 0"), 480, 272, 4, 0, 0, 4 },
     { CASE("limit 1"), 480, 272, 4, 0, 1, 0 },
-    { CASE("limit 65536"), 480, 272, 4, 0, 65536, 0 },
-    { CASE("limit 65537"), 480, 272, 4, 0, 65537, 4 },
+    { CASE("the largest limit"), 480, 272, 4, 0, JV_MAX_LIMIT, 0 },
+    { CASE("a limit too large by one"), 480, 272, 4, 0, JV_MAX_LIMIT + 1, 4 },
     { CASE("limit 2^32 - 1"), 480, 272, 4, 0, 0xFFFFFFFF, 4 },
 
-    { CASE("1 before 2, 3 and 4"), 801, 601, 5, 1048577, 0, 1 },
+    { CASE("1 before 2, 3 and 4"), JV_MAX_WIDTH + 1, JV_MAX_HEIGHT + 1, 5, JV_MAX_RAM_G_BYTES + 1, 0, 1 },
     { CASE("1 before 2"), 480, 0, 0, 0, 9, 1 },
-    { CASE("1 before 3"), 0, 272, 4, 1048577, 9, 1 },
-    { CASE("1 before 4"), 801, 272, 4, 0, 0, 1 },
-    { CASE("2 before 3 and 4"), 480, 272, 5, 1048577, 0, 2 },
-    { CASE("2 before 3"), 480, 272, 8196, 1048577, 9, 2 },
-    { CASE("2 before 4"), 480, 272, 0, 0, 65537, 2 },
-    { CASE("3 before 4"), 480, 272, 4, 1048577, 0, 3 },
+    { CASE("1 before 3"), 0, 272, 4, JV_MAX_RAM_G_BYTES + 1, 9, 1 },
+    { CASE("1 before 4"), JV_MAX_WIDTH + 1, 272, 4, 0, 0, 1 },
+    { CASE("2 before 3 and 4"), 480, 272, 5, JV_MAX_RAM_G_BYTES + 1, 0, 2 },
+    { CASE("2 before 3"), 480, 272, JV_MAX_LIST_BYTES + 4, JV_MAX_RAM_G_BYTES + 1, 9, 2 },
+    { CASE("2 before 4"), 480, 272, 0, 0, JV_MAX_LIMIT + 1, 2 },
+    { CASE("3 before 4"), 480, 272, 4, JV_MAX_RAM_G_BYTES + 1, 0, 3 },
 };
 
 static void check_measures(void)
@@ -751,7 +760,8 @@ static void check_measures_before_run(void)
     begin_part("numbers 1 to 4 before the run");
     check_answer(__LINE__, "1", &(run_request){ faulty, 4, 0, 0, 272, 9 }, (run_answer){ 1, 0, 0 });
     check_answer(__LINE__, "2", &(run_request){ faulty, 5, 0, 480, 272, 9 }, (run_answer){ 2, 0, 0 });
-    check_answer(__LINE__, "3", &(run_request){ faulty, 4, 1048577, 480, 272, 9 }, (run_answer){ 3, 0, 0 });
+    check_answer(__LINE__, "3", &(run_request){ faulty, 4, JV_MAX_RAM_G_BYTES + 1, 480, 272, 9 },
+                 (run_answer){ 3, 0, 0 });
     check_answer(__LINE__, "4", &(run_request){ faulty, 4, 0, 480, 272, 0 }, (run_answer){ 4, 0, 0 });
     check_answer(__LINE__, "none of these", &(run_request){ faulty, 4, 0, 480, 272, 9 }, (run_answer){ 11, 0, 1 });
 }
@@ -794,15 +804,15 @@ static const struct {
     { CLEAR_COLOR_RGB(1, 2, 255), { JV_CLEAR_COLOR_RGB, { 1, 2, 255 } } },
     { TAG(255), { JV_TAG, { 255 } } },
     { COLOR_RGB(255, 2, 3), { JV_COLOR_RGB, { 255, 2, 3 } } },
-    { BITMAP_HANDLE(31), { JV_BITMAP_HANDLE, { 31 } } },
+    { BITMAP_HANDLE(JV_HANDLES - 1), { JV_BITMAP_HANDLE, { JV_HANDLES - 1 } } },
     { CELL(127), { JV_CELL, { 127 } } },
-    { BITMAP_LAYOUT(17, 1023, 510), { JV_BITMAP_LAYOUT, { 17, 1023, 510 } } },
+    { BITMAP_LAYOUT(JV_FORMAT_L2, 1023, 510), { JV_BITMAP_LAYOUT, { JV_FORMAT_L2, 1023, 510 } } },
     { BITMAP_SIZE(1, 0, 1, 511, 1), { JV_BITMAP_SIZE, { 1, 0, 1, 511, 1 } } },
     { BITMAP_SIZE(0, 1, 0, 1, 511), { JV_BITMAP_SIZE, { 0, 1, 0, 1, 511 } } },
-    { ALPHA_FUNC(7, 254), { JV_ALPHA_FUNC, { 7, 254 } } },
-    { STENCIL_FUNC(7, 255, 1), { JV_STENCIL_FUNC, { 7, 255, 1 } } },
-    { BLEND_FUNC(5, 1), { JV_BLEND_FUNC, { 5, 1 } } },
-    { STENCIL_OP(5, 1), { JV_STENCIL_OP, { 5, 1 } } },
+    { ALPHA_FUNC(ALWAYS, 254), { JV_ALPHA_FUNC, { JV_TEST_ALWAYS, 254 } } },
+    { STENCIL_FUNC(ALWAYS, 255, 1), { JV_STENCIL_FUNC, { JV_TEST_ALWAYS, 255, 1 } } },
+    { BLEND_FUNC(ONE_MINUS_DST_ALPHA, ONE), { JV_BLEND_FUNC, { JV_FACTOR_ONE_MINUS_DST_ALPHA, JV_FACTOR_ONE } } },
+    { STENCIL_OP(INVERT, KEEP), { JV_STENCIL_OP, { JV_ACTION_INVERT, JV_ACTION_KEEP } } },
     { POINT_SIZE(8191), { JV_POINT_SIZE, { 8191 } } },
     { LINE_WIDTH(4095), { JV_LINE_WIDTH, { 4095 } } },
     { CLEAR_COLOR_A(255), { JV_CLEAR_COLOR_A, { 255 } } },
@@ -818,10 +828,10 @@ static const struct {
     { BITMAP_TRANSFORM_E(256), { JV_BITMAP_TRANSFORM_E, { 256 } } },
     { BITMAP_TRANSFORM_F(8388607), { JV_BITMAP_TRANSFORM_F, { 8388607 } } },
     { SCISSOR_XY(2047, 1), { JV_SCISSOR_XY, { 2047, 1 } } },
-    { SCISSOR_SIZE(2048, 1), { JV_SCISSOR_SIZE, { 2048, 1 } } },
+    { SCISSOR_SIZE(JV_MAX_SCISSOR, 1), { JV_SCISSOR_SIZE, { JV_MAX_SCISSOR, 1 } } },
     { CALL(65535), { JV_CALL, { 65535 } } },
     { JUMP(65535), { JV_JUMP, { 65535 } } },
-    { BEGIN(RECTS), { JV_BEGIN, { 9 } } },
+    { BEGIN(RECTS), { JV_BEGIN, { JV_PRIMITIVE_RECTS } } },
     { COLOR_MASK(1, 0, 1, 1), { JV_COLOR_MASK, { 1, 0, 1, 1 } } },
     { COLOR_MASK(0, 1, 0, 0), { JV_COLOR_MASK, { 0, 1, 0, 0 } } },
     { END(), { JV_END, { 0 } } },
@@ -831,7 +841,7 @@ static const struct {
     { MACRO(1), { JV_MACRO, { 1 } } },
     { CLEAR(1, 0, 0), { JV_CLEAR, { 1, 0, 0 } } },
     { CLEAR(0, 1, 1), { JV_CLEAR, { 0, 1, 1 } } },
-    { VERTEX_FORMAT(4), { JV_VERTEX_FORMAT, { 4 } } },
+    { VERTEX_FORMAT(JV_MAX_FRAC), { JV_VERTEX_FORMAT, { JV_MAX_FRAC } } },
     { BITMAP_LAYOUT_H(3, 1), { JV_BITMAP_LAYOUT_H, { 3, 1 } } },
     { BITMAP_SIZE_H(1, 3), { JV_BITMAP_SIZE_H, { 1, 3 } } },
     { PALETTE_SOURCE(4194303), { JV_PALETTE_SOURCE, { 4194303 } } },

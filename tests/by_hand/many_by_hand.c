@@ -7,12 +7,12 @@
 
 #include "hand_pictures.h"
 
-enum { WIDTH = 40, HEIGHT = 25, PIXELS = WIDTH * HEIGHT, MOST_LIST_WORDS = 2048 };
+enum { WIDTH = 40, HEIGHT = 25, PIXELS = WIDTH * HEIGHT, MOST_LIST_WORDS = JV_MAX_LIST_BYTES / 4 };
 
 /* Points in the order of the pixels, from the first again after the last. */
 static size_t write_points(uint32_t words[MOST_LIST_WORDS], uint32_t points)
 {
-    static const uint32_t before[] = { COLOR_RGB(1, 1, 1), BLEND_FUNC(1, 1), POINT_SIZE(0), BEGIN(POINTS) };
+    static const uint32_t before[] = { COLOR_RGB(1, 1, 1), BLEND_FUNC(ONE, ONE), POINT_SIZE(0), BEGIN(POINTS) };
     size_t count = 0;
     while (count < LENGTH(before)) {
         words[count] = before[count];

@@ -8,7 +8,7 @@
 #include "../shared/check.h"
 #include "hand_repaints.h"
 
-enum { WIDTH = 40, HEIGHT = 25, PIXELS = WIDTH * HEIGHT, MOST_LIST_WORDS = 2048 };
+enum { WIDTH = 40, HEIGHT = 25, PIXELS = WIDTH * HEIGHT, MOST_LIST_WORDS = JV_MAX_LIST_BYTES / 4 };
 
 /* ---- Lists of points ---- */
 
@@ -157,23 +157,21 @@ static void check_called_points(void)
 
 /* ---- The largest frame ---- */
 
-enum { MOST_WIDTH = 800, MOST_HEIGHT = 600 };
-
 static void check_largest_frame(void)
 {
-    static char kept[MOST_WIDTH + 1], first[MOST_WIDTH + 1], last[MOST_WIDTH + 1];
-    static const char *rows[MOST_HEIGHT];
+    static char kept[JV_MAX_WIDTH + 1], first[JV_MAX_WIDTH + 1], last[JV_MAX_WIDTH + 1];
+    static const char *rows[JV_MAX_HEIGHT];
     begin_part("repaints of the largest frame");
-    memset(kept, AS_LENT, MOST_WIDTH);
-    memset(first, '.', MOST_WIDTH);
-    memset(last, '.', MOST_WIDTH);
+    memset(kept, AS_LENT, JV_MAX_WIDTH);
+    memset(first, '.', JV_MAX_WIDTH);
+    memset(last, '.', JV_MAX_WIDTH);
     first[0] = '#';
-    last[MOST_WIDTH - 1] = '#';
-    for (uint32_t y = 0; y < MOST_HEIGHT; y++)
-        rows[y] = y == 0 ? first : y == MOST_HEIGHT - 1 ? last : kept;
+    last[JV_MAX_WIDTH - 1] = '#';
+    for (uint32_t y = 0; y < JV_MAX_HEIGHT; y++)
+        rows[y] = y == 0 ? first : y == JV_MAX_HEIGHT - 1 ? last : kept;
     check_repaint(__FILE__,
                   &(const hand_picture){
-                      CASE("two corners of the largest frame"), .rows = rows, .height = MOST_HEIGHT, FROM(DISPLAY()),
+                      CASE("two corners of the largest frame"), .rows = rows, .height = JV_MAX_HEIGHT, FROM(DISPLAY()),
                       TO(POINT_SIZE(0), BEGIN(POINTS), VERTEX2F(0, 0), VERTEX2F(16 * 799, 16 * 599), DISPLAY()) });
 }
 

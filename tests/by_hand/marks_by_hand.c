@@ -4,9 +4,6 @@
 
 #include "hand_repaints.h"
 
-enum { NEVER = 0, GEQUAL = 4, ALWAYS = 7 };
-enum { ZERO = 0, KEEP = 1, REPLACE = 2, ONE = 1, SRC_ALPHA = 2, ONE_MINUS_SRC_ALPHA = 4 };
-
 #define RED COLOR_RGB(255, 0, 0)
 #define GREEN COLOR_RGB(0, 255, 0)
 #define BLUE COLOR_RGB(0, 0, 255)
@@ -41,7 +38,8 @@ static const hand_picture nothing_changed[] = {
          TAG_MASK(1), VERTEX_FORMAT(4), VERTEX_TRANSLATE_X(0), VERTEX_TRANSLATE_Y(0), AT(1, 1), DISPLAY()),
       NO_ROW },
     { CASE("a scissor that was so already"), FROM(BEGIN_EVERYWHERE, EVERYWHERE, DISPLAY()),
-      TO(SCISSOR_XY(0, 0), SCISSOR_SIZE(2048, 2048), BEGIN_EVERYWHERE, EVERYWHERE, DISPLAY()), NO_ROW },
+      TO(SCISSOR_XY(0, 0), SCISSOR_SIZE(JV_MAX_SCISSOR, JV_MAX_SCISSOR), BEGIN_EVERYWHERE, EVERYWHERE, DISPLAY()),
+      NO_ROW },
     { CASE("a scissor that is set back before anything is drawn"),
       FROM(SCISSOR_SIZE(3, 3), BEGIN_EVERYWHERE, EVERYWHERE, DISPLAY()),
       TO(SCISSOR_SIZE(2, 2), SCISSOR_SIZE(3, 3), BEGIN_EVERYWHERE, EVERYWHERE, DISPLAY()), NO_ROW },
@@ -230,7 +228,8 @@ static const hand_picture moot[] = {
     { CASE("one that no test lets through"), FROM(DOTS, ALPHA_FUNC(NEVER, 0), DISPLAY()),
       TO(DOTS, ALPHA_FUNC(NEVER, 0), AT(1, 1), DISPLAY()), SHOWS(KEPT, "....", KEPT, KEPT) },
     { CASE("a scissor that ends elsewhere beside the frame"), FROM(DOTS, AT(1, 1), DISPLAY()),
-      TO(DOTS, SCISSOR_SIZE(2047, 2048), AT(1, 1), DISPLAY()), SHOWS(KEPT, ".#..", KEPT, KEPT) },
+      TO(DOTS, SCISSOR_SIZE(JV_MAX_SCISSOR - 1, JV_MAX_SCISSOR), AT(1, 1), DISPLAY()),
+      SHOWS(KEPT, ".#..", KEPT, KEPT) },
     { CASE("a scissor whose rows change beside the point"), FROM(DOTS, SCISSOR_SIZE(4, 4), AT(1, 1), DISPLAY()),
       TO(DOTS, SCISSOR_XY(0, 1), SCISSOR_SIZE(4, 3), AT(1, 1), DISPLAY()), SHOWS(KEPT, ".#..", KEPT, KEPT) },
     { CASE("a point moved by a sixteenth that covers the same"),
@@ -270,8 +269,8 @@ static const hand_picture values[] = {
     POINT_WITH("tag", TAG(254), ".x..", { 255, 255, 255, 254 }),
     POINT_WITH("scissor x", SCISSOR_XY(1, 0), ".x..", { 255, 255, 255, 255 }),
     POINT_WITH("scissor y", SCISSOR_XY(0, 1), ".x..", { 255, 255, 255, 255 }),
-    POINT_WITH("scissor width", SCISSOR_SIZE(2, 2048), ".x..", { 255, 255, 255, 255 }),
-    POINT_WITH("scissor height", SCISSOR_SIZE(2048, 2), ".x..", { 255, 255, 255, 255 }),
+    POINT_WITH("scissor width", SCISSOR_SIZE(2, JV_MAX_SCISSOR), ".x..", { 255, 255, 255, 255 }),
+    POINT_WITH("scissor height", SCISSOR_SIZE(JV_MAX_SCISSOR, 2), ".x..", { 255, 255, 255, 255 }),
     POINT_WITH("alpha function", ALPHA_FUNC(GEQUAL, 0), ".x..", { 255, 255, 255, 255 }),
     POINT_WITH("stencil function", STENCIL_FUNC(GEQUAL, 0, 255), ".x..", { 255, 255, 255, 255 }),
     POINT_WITH("stencil action, passed", STENCIL_OP(KEEP, ZERO), ".x..", { 255, 255, 255, 255 }),

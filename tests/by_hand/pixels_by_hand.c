@@ -7,10 +7,6 @@
 #include "../shared/check.h"
 #include "hand_pictures.h"
 
-enum { NEVER, LESS, LEQUAL, GREATER, GEQUAL, EQUAL, NOTEQUAL, ALWAYS };
-enum { ZERO_STENCIL, KEEP, REPLACE, INCR, DECR, INVERT };
-enum { ZERO, ONE, SRC_ALPHA, DST_ALPHA, ONE_MINUS_SRC_ALPHA, ONE_MINUS_DST_ALPHA };
-
 enum { MOST_NAME = 80 };
 
 #define PIXEL(red, green, blue, tag) { red, green, blue, tag }
@@ -147,7 +143,7 @@ static const hand_picture alpha_tests[] = {
 
 #define STORE_STENCIL(x, stencil)                                                                                      \
     SCISSOR_XY(x, 0), SCISSOR_SIZE(1, 1), CLEAR_STENCIL(stencil), CLEAR(0, 1, 0)
-#define FREE_SCISSOR SCISSOR_XY(0, 0), SCISSOR_SIZE(2048, 2048)
+#define FREE_SCISSOR SCISSOR_XY(0, 0), SCISSOR_SIZE(JV_MAX_SCISSOR, JV_MAX_SCISSOR)
 
 /* Three pixels that store values below, at and above the reference. The reference stands left of the sign. */
 #define STENCIL_TESTED(func)                                                                                           \
@@ -187,7 +183,7 @@ static const hand_picture stencil_tests[] = {
 static const struct {
     uint8_t action, stored, ref, mask, after;
 } stencil_actions_done[] = {
-    { ZERO_STENCIL, 77, 5, 255, 0 },
+    { ZERO, 77, 5, 255, 0 },
     { KEEP, 77, 5, 255, 77 },
     { REPLACE, 77, 5, 255, 5 },
     { INCR, 77, 5, 255, 78 },
@@ -201,7 +197,7 @@ static const struct {
     { INVERT, 255, 5, 255, 0 },
 
     /* The mask selects the bits that are written of what the whole byte becomes. */
-    { ZERO_STENCIL, 0xA5, 0x3C, 0x0F, 0xA0 },
+    { ZERO, 0xA5, 0x3C, 0x0F, 0xA0 },
     { KEEP, 0xA5, 0x3C, 0x0F, 0xA5 },
     { REPLACE, 0xA5, 0x3C, 0x0F, 0xAC },
     { INCR, 0xAF, 0x3C, 0x0F, 0xA0 }, /* 0xB0 */

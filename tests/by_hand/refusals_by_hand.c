@@ -11,9 +11,9 @@
 #include "faulty_lists.h"
 #include "hand_pictures.h"
 
-enum { WIDTH = 4, HEIGHT = 3, NUMBERS = 21 };
+enum { WIDTH = 4, HEIGHT = 3, NUMBERS = JV_FAR_END + 1 };
 
-static uint8_t ram_g[MOST_RAM_G_BYTES + 1];
+static uint8_t ram_g[JV_MAX_RAM_G_BYTES + 1];
 
 /* How many cases gave each number, by the frame and by the row. */
 static unsigned met[NUMBERS];
@@ -64,7 +64,7 @@ static void check_refusal(const refused_request *q)
 /* By the frame, and by its first and its last row, with runs of the right lengths. */
 static void check_refused_run(const char *file, int line, const char *name, const run_request *run, run_answer wanted)
 {
-    size_t width = run->width <= 800 ? run->width : 1, height = run->height <= 600 ? run->height : 1;
+    size_t width = run->width <= JV_MAX_WIDTH ? run->width : 1, height = run->height <= JV_MAX_HEIGHT ? run->height : 1;
     refused_request q = { .line = line, .name = name, .run = *run, .wanted = as_answer(wanted) };
     q.picture_length = 3 * width * height;
     q.tags_length = width * height;
@@ -89,35 +89,35 @@ typedef struct {
 
 static const measure measures[] = {
     { CASE("width 0"), 0, 3, 24, 0, 9, 1 },
-    { CASE("width 801"), 801, 3, 24, 0, 9, 1 },
+    { CASE("a width too large by one"), JV_MAX_WIDTH + 1, 3, 24, 0, 9, 1 },
     { CASE("width 2^32 - 1"), 0xFFFFFFFF, 3, 24, 0, 9, 1 },
     { CASE("width 2^31 + 4"), 0x80000004, 3, 24, 0, 9, 1 },
     { CASE("height 0"), 4, 0, 24, 0, 9, 1 },
-    { CASE("height 601"), 4, 601, 24, 0, 9, 1 },
+    { CASE("a height too large by one"), 4, JV_MAX_HEIGHT + 1, 24, 0, 9, 1 },
     { CASE("height 2^32 - 1"), 4, 0xFFFFFFFF, 24, 0, 9, 1 },
-    { CASE("the largest frame turned by a quarter"), 600, 800, 24, 0, 9, 1 },
+    { CASE("the largest frame turned by a quarter"), JV_MAX_HEIGHT, JV_MAX_WIDTH, 24, 0, 9, 1 },
 
     { CASE("an empty list"), 4, 3, 0, 0, 9, 2 },
     { CASE("a list of 3 bytes"), 4, 3, 3, 0, 9, 2 },
     { CASE("a list of 23 bytes"), 4, 3, 23, 0, 9, 2 },
-    { CASE("a list of 8193 bytes"), 4, 3, 8193, 0, 9, 2 },
-    { CASE("a list of 8196 bytes"), 4, 3, 8196, 0, 9, 2 },
+    { CASE("a list too long by a byte"), 4, 3, JV_MAX_LIST_BYTES + 1, 0, 9, 2 },
+    { CASE("a list too long by a word"), 4, 3, JV_MAX_LIST_BYTES + 4, 0, 9, 2 },
 
-    { CASE("RAM_G of 1048577 bytes"), 4, 3, 24, 1048577, 9, 3 },
+    { CASE("RAM_G too long by a byte"), 4, 3, 24, JV_MAX_RAM_G_BYTES + 1, 9, 3 },
 
     { CASE("limit 0"), 4, 3, 24, 0, 0, 4 },
-    { CASE("limit 65537"), 4, 3, 24, 0, 65537, 4 },
+    { CASE("a limit too large by one"), 4, 3, 24, 0, JV_MAX_LIMIT + 1, 4 },
     { CASE("limit 2^32 - 1"), 4, 3, 24, 0, 0xFFFFFFFF, 4 },
 
-    { CASE("1 before 2, 3 and 4"), 0, 601, 5, 1048577, 0, 1 },
-    { CASE("2 before 3 and 4"), 4, 3, 5, 1048577, 0, 2 },
-    { CASE("3 before 4"), 4, 3, 24, 1048577, 0, 3 },
+    { CASE("1 before 2, 3 and 4"), 0, JV_MAX_HEIGHT + 1, 5, JV_MAX_RAM_G_BYTES + 1, 0, 1 },
+    { CASE("2 before 3 and 4"), 4, 3, 5, JV_MAX_RAM_G_BYTES + 1, 0, 2 },
+    { CASE("3 before 4"), 4, 3, 24, JV_MAX_RAM_G_BYTES + 1, 0, 3 },
 };
 
 /* A list of 24 bytes that paints everything, and DISPLAY again and again after it. */
 static const uint8_t *long_list(void)
 {
-    static uint8_t list[MOST_LIST_BYTES + 4];
+    static uint8_t list[JV_MAX_LIST_BYTES + 4];
     static const uint32_t words[] = { PAINT_ALL, DISPLAY() };
     put_words(list, words, LENGTH(words));
     return list;
@@ -171,7 +171,7 @@ static const lent_lengths wrong_lengths[] = {
     { CASE("the frame's runs for a row"), IS_ROW, 1, 36, 12 },
 
     { CASE("the row after the last"), IS_ROW, 3, 12, 4 },
-    { CASE("a row far past the frame"), IS_ROW, 600, 12, 4 },
+    { CASE("a row far past the frame"), IS_ROW, JV_MAX_HEIGHT, 12, 4 },
     { CASE("row 2^32 - 1"), IS_ROW, 0xFFFFFFFF, 12, 4 },
     { CASE("row 2^31"), IS_ROW, 0x80000000, 12, 4 },
 };
@@ -188,7 +188,8 @@ static void check_wrong_lengths(void)
 static void check_lengths_first(void)
 {
     static const uint8_t faulty[] = { 0xFF, 0xFF, 0xFF, 0xFF, 0xFF };
-    run_request bad_list = { faulty, 5, 0, WIDTH, HEIGHT, 9 }, bad_ram_g = { faulty, 4, 1048577, WIDTH, HEIGHT, 9 };
+    run_request bad_list = { faulty, 5, 0, WIDTH, HEIGHT, 9 },
+                bad_ram_g = { faulty, 4, JV_MAX_RAM_G_BYTES + 1, WIDTH, HEIGHT, 9 };
     run_request bad_limit = { faulty, 4, 0, WIDTH, HEIGHT, 0 }, bad_word = { faulty, 4, 0, WIDTH, HEIGHT, 9 };
     begin_part("number 1 before the others");
     check_refusal(&(refused_request){ CASE("a list length"), bad_list, IS_FRAME, 0, 35, 12, { 1, 0, 0, 0 } });
@@ -234,7 +235,7 @@ static void check_vast_lengths(void)
 
 static void check_faulty_lists(void)
 {
-    static uint8_t list[MOST_LIST_BYTES];
+    static uint8_t list[JV_MAX_LIST_BYTES];
     begin_part("refused by a fault");
     for (const faulty_list *f = faulty_lists; f < faulty_lists + faulty_list_count; f++) {
         put_words(list, f->words, f->count);

@@ -12,11 +12,11 @@
 #include "faulty_lists.h"
 #include "hand_repaints.h"
 
-enum { WIDTH = 4, HEIGHT = 3, NUMBERS = 21 };
+enum { WIDTH = 4, HEIGHT = 3, NUMBERS = JV_FAR_END + 1 };
 
 static const repaint_program *const programs[] = { &repainting_library, &repainting_second_program };
 
-static uint8_t ram_g[MOST_RAM_G_BYTES + 1];
+static uint8_t ram_g[JV_MAX_RAM_G_BYTES + 1];
 
 /* How many cases gave each number, for each of the lists that it names. */
 static unsigned met[NUMBERS][NEW_LIST + 1];
@@ -61,7 +61,7 @@ static void check_refusal(const char *file, const refused_repaint *q)
 /* A list of 24 bytes that paints everything, and DISPLAY again and again after it; and one that paints nothing. */
 static const uint8_t *good_list(void)
 {
-    static uint8_t list[MOST_LIST_BYTES + 4];
+    static uint8_t list[JV_MAX_LIST_BYTES + 4];
     static const uint32_t words[] = { PAINT_ALL, DISPLAY() };
     put_words(list, words, LENGTH(words));
     return list;
@@ -69,7 +69,7 @@ static const uint8_t *good_list(void)
 
 static const uint8_t *empty_list(void)
 {
-    static uint8_t list[MOST_LIST_BYTES + 4];
+    static uint8_t list[JV_MAX_LIST_BYTES + 4];
     return list;
 }
 
@@ -87,40 +87,40 @@ typedef struct {
 
 static const measure measures[] = {
     { CASE("width 0"), 0, 3, 24, 24, 0, 9, 1, 0 },
-    { CASE("width 801"), 801, 3, 24, 24, 0, 9, 1, 0 },
+    { CASE("a width too large by one"), JV_MAX_WIDTH + 1, 3, 24, 24, 0, 9, 1, 0 },
     { CASE("width 2^31 + 4"), 0x80000004, 3, 24, 24, 0, 9, 1, 0 },
     { CASE("height 0"), 4, 0, 24, 24, 0, 9, 1, 0 },
-    { CASE("height 601"), 4, 601, 24, 24, 0, 9, 1, 0 },
+    { CASE("a height too large by one"), 4, JV_MAX_HEIGHT + 1, 24, 24, 0, 9, 1, 0 },
     { CASE("height 2^32 - 1"), 4, 0xFFFFFFFF, 24, 24, 0, 9, 1, 0 },
-    { CASE("the largest frame turned by a quarter"), 600, 800, 24, 24, 0, 9, 1, 0 },
+    { CASE("the largest frame turned by a quarter"), JV_MAX_HEIGHT, JV_MAX_WIDTH, 24, 24, 0, 9, 1, 0 },
 
     { CASE("an empty old list"), 4, 3, 0, 24, 0, 9, 2, OLD_LIST },
     { CASE("an old list of 3 bytes"), 4, 3, 3, 24, 0, 9, 2, OLD_LIST },
     { CASE("an old list of 23 bytes"), 4, 3, 23, 24, 0, 9, 2, OLD_LIST },
-    { CASE("an old list of 8193 bytes"), 4, 3, 8193, 24, 0, 9, 2, OLD_LIST },
-    { CASE("an old list of 8196 bytes"), 4, 3, 8196, 24, 0, 9, 2, OLD_LIST },
+    { CASE("an old list too long by a byte"), 4, 3, JV_MAX_LIST_BYTES + 1, 24, 0, 9, 2, OLD_LIST },
+    { CASE("an old list too long by a word"), 4, 3, JV_MAX_LIST_BYTES + 4, 24, 0, 9, 2, OLD_LIST },
     { CASE("an empty new list"), 4, 3, 24, 0, 0, 9, 2, NEW_LIST },
     { CASE("a new list of 3 bytes"), 4, 3, 24, 3, 0, 9, 2, NEW_LIST },
     { CASE("a new list of 23 bytes"), 4, 3, 24, 23, 0, 9, 2, NEW_LIST },
-    { CASE("a new list of 8193 bytes"), 4, 3, 24, 8193, 0, 9, 2, NEW_LIST },
-    { CASE("a new list of 8196 bytes"), 4, 3, 24, 8196, 0, 9, 2, NEW_LIST },
+    { CASE("a new list too long by a byte"), 4, 3, 24, JV_MAX_LIST_BYTES + 1, 0, 9, 2, NEW_LIST },
+    { CASE("a new list too long by a word"), 4, 3, 24, JV_MAX_LIST_BYTES + 4, 0, 9, 2, NEW_LIST },
     { CASE("two empty lists"), 4, 3, 0, 0, 0, 9, 2, OLD_LIST },
-    { CASE("two lists too long"), 4, 3, 8196, 8196, 0, 9, 2, OLD_LIST },
+    { CASE("two lists too long"), 4, 3, JV_MAX_LIST_BYTES + 4, JV_MAX_LIST_BYTES + 4, 0, 9, 2, OLD_LIST },
 
-    { CASE("RAM_G of 1048577 bytes"), 4, 3, 24, 24, 1048577, 9, 3, 0 },
+    { CASE("RAM_G too long by a byte"), 4, 3, 24, 24, JV_MAX_RAM_G_BYTES + 1, 9, 3, 0 },
 
     { CASE("limit 0"), 4, 3, 24, 24, 0, 0, 4, 0 },
-    { CASE("limit 65537"), 4, 3, 24, 24, 0, 65537, 4, 0 },
+    { CASE("a limit too large by one"), 4, 3, 24, 24, 0, JV_MAX_LIMIT + 1, 4, 0 },
     { CASE("limit 2^32 - 1"), 4, 3, 24, 24, 0, 0xFFFFFFFF, 4, 0 },
 
-    { CASE("1 before 2, 3 and 4"), 0, 601, 5, 5, 1048577, 0, 1, 0 },
-    { CASE("2 of the old list before 2 of the new, 3 and 4"), 4, 3, 5, 5, 1048577, 0, 2, OLD_LIST },
-    { CASE("2 of the old list before 3"), 4, 3, 5, 24, 1048577, 9, 2, OLD_LIST },
+    { CASE("1 before 2, 3 and 4"), 0, JV_MAX_HEIGHT + 1, 5, 5, JV_MAX_RAM_G_BYTES + 1, 0, 1, 0 },
+    { CASE("2 of the old list before 2 of the new, 3 and 4"), 4, 3, 5, 5, JV_MAX_RAM_G_BYTES + 1, 0, 2, OLD_LIST },
+    { CASE("2 of the old list before 3"), 4, 3, 5, 24, JV_MAX_RAM_G_BYTES + 1, 9, 2, OLD_LIST },
     { CASE("2 of the old list before 4"), 4, 3, 5, 24, 0, 0, 2, OLD_LIST },
-    { CASE("2 of the new list before 3 and 4"), 4, 3, 24, 5, 1048577, 0, 2, NEW_LIST },
-    { CASE("2 of the new list before 3"), 4, 3, 24, 5, 1048577, 9, 2, NEW_LIST },
-    { CASE("2 of the new list before 4"), 4, 3, 24, 5, 0, 65537, 2, NEW_LIST },
-    { CASE("3 before 4"), 4, 3, 24, 24, 1048577, 0, 3, 0 },
+    { CASE("2 of the new list before 3 and 4"), 4, 3, 24, 5, JV_MAX_RAM_G_BYTES + 1, 0, 2, NEW_LIST },
+    { CASE("2 of the new list before 3"), 4, 3, 24, 5, JV_MAX_RAM_G_BYTES + 1, 9, 2, NEW_LIST },
+    { CASE("2 of the new list before 4"), 4, 3, 24, 5, 0, JV_MAX_LIMIT + 1, 2, NEW_LIST },
+    { CASE("3 before 4"), 4, 3, 24, 24, JV_MAX_RAM_G_BYTES + 1, 0, 3, 0 },
 };
 
 /* With runs of the lengths that the frame has, where it has any. */
@@ -128,7 +128,7 @@ static void check_measures(void)
 {
     begin_part("repaints refused by measure");
     for (const measure *m = measures; m < measures + LENGTH(measures); m++) {
-        size_t width = m->width <= 800 ? m->width : 1, height = m->height <= 600 ? m->height : 1;
+        size_t width = m->width <= JV_MAX_WIDTH ? m->width : 1, height = m->height <= JV_MAX_HEIGHT ? m->height : 1;
         run_request run = { good_list(), m->new_length, m->ram_g_length, m->width, m->height, m->limit };
         jv_answer wanted = { m->number, m->list, 0, 0 };
         refused_repaint q = { m->line,        m->name, empty_list(), m->old_length, run, 3 * width * height,
@@ -184,7 +184,7 @@ static void check_lengths_first(void)
     static const uint8_t faulty[] = { 0xFF, 0xFF, 0xFF, 0xFF, 0xFF };
     run_request run = { faulty, 4, 0, WIDTH, HEIGHT, 9 }, short_run = run, bad_ram_g = run, bad_limit = run;
     short_run.list_length = 5;
-    bad_ram_g.ram_g_length = MOST_RAM_G_BYTES + 1;
+    bad_ram_g.ram_g_length = JV_MAX_RAM_G_BYTES + 1;
     bad_limit.limit = 0;
     const refused_repaint table[] = {
         { CASE("the old list's length"), faulty, 5, run, 36, 12, 2, { 1, 0, 0, 0 } },
@@ -253,7 +253,7 @@ static void check_faulty(const faulty_list *f, const uint8_t *old_list, size_t o
 static void check_faulty_lists(void)
 {
     static const uint8_t no_command[] = { 0xFF, 0xFF, 0xFF, 0xFF };
-    static uint8_t list[MOST_LIST_BYTES];
+    static uint8_t list[JV_MAX_LIST_BYTES];
     begin_part("repaints refused by a fault");
     for (const faulty_list *f = faulty_lists; f < faulty_lists + faulty_list_count; f++) {
         size_t length = 4 * f->count;

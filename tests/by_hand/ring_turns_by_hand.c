@@ -15,7 +15,7 @@ static const hand_ring empty_rings[] = {
     { CASE("nothing waits"), AT(0, 0, 0, 0), GIVES(0, 0, 0, 0, 0, 0, 0, 0) },
     { CASE("nothing waits at 4"), AT(4, 4, 8, 0), GIVES(0, 0, 0, 4, 4, 4, 8, 0) },
     { CASE("nothing waits at 2048"), AT(2048, 2048, 0, 0), RAM_G_OF(16), GIVES(0, 0, 0, 2048, 2048, 2048, 0, 0) },
-    { CASE("nothing waits at 4092"), AT(4092, 4092, 8192, 0), GIVES(0, 0, 0, 4092, 4092, 4092, 8192, 0) },
+    { CASE("nothing waits at 4092"), AT(LAST, LAST, FULL, 0), GIVES(0, 0, 0, LAST, LAST, LAST, FULL, 0) },
     { CASE("words lie there, and none waits"), AT(8, 8, 0, 0), WAITING(0x12345678, SWAP(), 0xFFFFFFFF), RAM_G_OF(16),
       GIVES(0, 0, 0, 8, 8, 8, 0, 0) },
 };
@@ -23,70 +23,70 @@ static const hand_ring empty_rings[] = {
 /* ---- Around the ring's end ---- */
 
 static const hand_ring around_the_end[] = {
-    { CASE("the ring's last word"), AT(4092, 0, 0, 0), WAITING(0x12345678), GIVES(0, 0, 1, 0, 0, 0, 4, 0),
+    { CASE("the ring's last word"), AT(LAST, 0, 0, 0), WAITING(0x12345678), GIVES(0, 0, 1, 0, 0, 0, 4, 0),
       CHANGES(LIST_GETS(0, 0x12345678)) },
-    { CASE("its last and its first word"), AT(4092, 4, 0, 0), WAITING(0x12345678, 0x23456789),
+    { CASE("its last and its first word"), AT(LAST, 4, 0, 0), WAITING(0x12345678, 0x23456789),
       GIVES(0, 0, 2, 4, 4, 4, 8, 0), CHANGES(LIST_GETS(0, 0x12345678, 0x23456789)) },
-    { CASE("up to its last word"), AT(4084, 4092, 0, 0), WAITING(0x12345678, 0x23456789),
-      GIVES(0, 0, 2, 4092, 4092, 4092, 8, 0), CHANGES(LIST_GETS(0, 0x12345678, 0x23456789)) },
-    { CASE("DLSTART at the end"), AT(4092, 0, 400, 0), WAITING(DLSTART()), GIVES(0, 0, 1, 0, 0, 0, 0, 0) },
-    { CASE("COLDSTART at the end"), AT(4092, 0, 400, 0), WAITING(COLDSTART()), GIVES(0, 0, 1, 0, 0, 0, 400, 0) },
-    { CASE("SWAP at the end"), AT(4092, 4, 400, 0), WAITING(SWAP(), 0x12345678), GIVES(31, 0, 1, 0, 0, 4, 400, 0),
+    { CASE("up to its last word"), AT(LAST - 8, LAST, 0, 0), WAITING(0x12345678, 0x23456789),
+      GIVES(0, 0, 2, LAST, LAST, LAST, 8, 0), CHANGES(LIST_GETS(0, 0x12345678, 0x23456789)) },
+    { CASE("DLSTART at the end"), AT(LAST, 0, 400, 0), WAITING(DLSTART()), GIVES(0, 0, 1, 0, 0, 0, 0, 0) },
+    { CASE("COLDSTART at the end"), AT(LAST, 0, 400, 0), WAITING(COLDSTART()), GIVES(0, 0, 1, 0, 0, 0, 400, 0) },
+    { CASE("SWAP at the end"), AT(LAST, 4, 400, 0), WAITING(SWAP(), 0x12345678), GIVES(31, 0, 1, 0, 0, 4, 400, 0),
       CHANGES(SHOWN_IS_LIST) },
 
-    { CASE("MEMSET up to the end"), AT(4080, 0, 0, 0), WAITING(MEMSET(2, 0xAB, 5)), RAM_G_OF(16),
+    { CASE("MEMSET up to the end"), AT(LAST - 12, 0, 0, 0), WAITING(MEMSET(2, 0xAB, 5)), RAM_G_OF(16),
       GIVES(0, 0, 1, 0, 0, 0, 0, 0), CHANGES(RAM_G_FILLS(2, 0xAB, 5)) },
-    { CASE("MEMSET's count past it"), AT(4084, 4, 0, 0), WAITING(MEMSET(2, 0xAB, 5)), RAM_G_OF(16),
+    { CASE("MEMSET's count past it"), AT(LAST - 8, 4, 0, 0), WAITING(MEMSET(2, 0xAB, 5)), RAM_G_OF(16),
       GIVES(0, 0, 1, 4, 4, 4, 0, 0), CHANGES(RAM_G_FILLS(2, 0xAB, 5)) },
-    { CASE("MEMSET's value and count past it"), AT(4088, 8, 0, 0), WAITING(MEMSET(2, 0xAB, 5)), RAM_G_OF(16),
+    { CASE("MEMSET's value and count past it"), AT(LAST - 4, 8, 0, 0), WAITING(MEMSET(2, 0xAB, 5)), RAM_G_OF(16),
       GIVES(0, 0, 1, 8, 8, 8, 0, 0), CHANGES(RAM_G_FILLS(2, 0xAB, 5)) },
-    { CASE("MEMSET's parameters past it"), AT(4092, 12, 0, 0), WAITING(MEMSET(2, 0xAB, 5)), RAM_G_OF(16),
+    { CASE("MEMSET's parameters past it"), AT(LAST, 12, 0, 0), WAITING(MEMSET(2, 0xAB, 5)), RAM_G_OF(16),
       GIVES(0, 0, 1, 12, 12, 12, 0, 0), CHANGES(RAM_G_FILLS(2, 0xAB, 5)) },
-    { CASE("MEMZERO up to the end"), AT(4084, 0, 0, 0), WAITING(MEMZERO(2, 5)), RAM_G_OF(16),
+    { CASE("MEMZERO up to the end"), AT(LAST - 8, 0, 0, 0), WAITING(MEMZERO(2, 5)), RAM_G_OF(16),
       GIVES(0, 0, 1, 0, 0, 0, 0, 0), CHANGES(RAM_G_FILLS(2, 0, 5)) },
-    { CASE("MEMZERO's count past it"), AT(4088, 4, 0, 0), WAITING(MEMZERO(2, 5)), RAM_G_OF(16),
+    { CASE("MEMZERO's count past it"), AT(LAST - 4, 4, 0, 0), WAITING(MEMZERO(2, 5)), RAM_G_OF(16),
       GIVES(0, 0, 1, 4, 4, 4, 0, 0), CHANGES(RAM_G_FILLS(2, 0, 5)) },
-    { CASE("MEMZERO's parameters past it"), AT(4092, 8, 0, 0), WAITING(MEMZERO(2, 5)), RAM_G_OF(16),
+    { CASE("MEMZERO's parameters past it"), AT(LAST, 8, 0, 0), WAITING(MEMZERO(2, 5)), RAM_G_OF(16),
       GIVES(0, 0, 1, 8, 8, 8, 0, 0), CHANGES(RAM_G_FILLS(2, 0, 5)) },
-    { CASE("MEMCPY up to the end"), AT(4080, 0, 0, 0), WAITING(MEMCPY(2, 9, 5)), RAM_G_OF(16),
+    { CASE("MEMCPY up to the end"), AT(LAST - 12, 0, 0, 0), WAITING(MEMCPY(2, 9, 5)), RAM_G_OF(16),
       GIVES(0, 0, 1, 0, 0, 0, 0, 0), CHANGES(RAM_G_COPIES(2, 9, 5)) },
-    { CASE("MEMCPY's count past it"), AT(4084, 4, 0, 0), WAITING(MEMCPY(2, 9, 5)), RAM_G_OF(16),
+    { CASE("MEMCPY's count past it"), AT(LAST - 8, 4, 0, 0), WAITING(MEMCPY(2, 9, 5)), RAM_G_OF(16),
       GIVES(0, 0, 1, 4, 4, 4, 0, 0), CHANGES(RAM_G_COPIES(2, 9, 5)) },
-    { CASE("MEMCPY's source and count past it"), AT(4088, 8, 0, 0), WAITING(MEMCPY(2, 9, 5)), RAM_G_OF(16),
+    { CASE("MEMCPY's source and count past it"), AT(LAST - 4, 8, 0, 0), WAITING(MEMCPY(2, 9, 5)), RAM_G_OF(16),
       GIVES(0, 0, 1, 8, 8, 8, 0, 0), CHANGES(RAM_G_COPIES(2, 9, 5)) },
-    { CASE("MEMCPY's parameters past it"), AT(4092, 12, 0, 0), WAITING(MEMCPY(2, 9, 5)), RAM_G_OF(16),
+    { CASE("MEMCPY's parameters past it"), AT(LAST, 12, 0, 0), WAITING(MEMCPY(2, 9, 5)), RAM_G_OF(16),
       GIVES(0, 0, 1, 12, 12, 12, 0, 0), CHANGES(RAM_G_COPIES(2, 9, 5)) },
-    { CASE("APPEND up to the end"), AT(4084, 0, 0, 0), WAITING(APPEND(5, 8)), RAM_G_OF(16),
+    { CASE("APPEND up to the end"), AT(LAST - 8, 0, 0, 0), WAITING(APPEND(5, 8)), RAM_G_OF(16),
       GIVES(0, 0, 1, 0, 0, 0, 8, 0), CHANGES(LIST_COPIES(0, 5, 8)) },
-    { CASE("APPEND's count past it"), AT(4088, 4, 0, 0), WAITING(APPEND(5, 8)), RAM_G_OF(16),
+    { CASE("APPEND's count past it"), AT(LAST - 4, 4, 0, 0), WAITING(APPEND(5, 8)), RAM_G_OF(16),
       GIVES(0, 0, 1, 4, 4, 4, 8, 0), CHANGES(LIST_COPIES(0, 5, 8)) },
-    { CASE("APPEND's parameters past it"), AT(4092, 8, 0, 0), WAITING(APPEND(5, 8)), RAM_G_OF(16),
+    { CASE("APPEND's parameters past it"), AT(LAST, 8, 0, 0), WAITING(APPEND(5, 8)), RAM_G_OF(16),
       GIVES(0, 0, 1, 8, 8, 8, 8, 0), CHANGES(LIST_COPIES(0, 5, 8)) },
-    { CASE("a command behind parameters past it"), AT(4088, 16, 0, 0), WAITING(MEMSET(2, 0xAB, 5), 0x12345678, SWAP()),
-      RAM_G_OF(16), GIVES(31, 0, 3, 16, 16, 16, 4, 0),
+    { CASE("a command behind parameters past it"), AT(LAST - 4, 16, 0, 0),
+      WAITING(MEMSET(2, 0xAB, 5), 0x12345678, SWAP()), RAM_G_OF(16), GIVES(31, 0, 3, 16, 16, 16, 4, 0),
       CHANGES(RAM_G_FILLS(2, 0xAB, 5), LIST_GETS(0, 0x12345678), SHOWN_IS_LIST) },
 
-    { CASE("MEMSET lacks all parameters at the end"), AT(4092, 0, 0, 0), WAITING(MEMSET(2, 0xAB, 5)), RAM_G_OF(16),
-      GIVES(30, 0, 0, 4092, 4092, 0, 0, 0) },
-    { CASE("MEMSET lacks its count past the end"), AT(4092, 8, 0, 0), WAITING(MEMSET(2, 0xAB, 5)), RAM_G_OF(16),
-      GIVES(30, 0, 0, 4092, 4092, 8, 0, 0) },
-    { CASE("MEMSET lacks its count at the end"), AT(4084, 0, 0, 0), WAITING(MEMSET(2, 0xAB, 5)), RAM_G_OF(16),
-      GIVES(30, 0, 0, 4084, 4084, 0, 0, 0) },
-    { CASE("MEMZERO lacks its count past the end"), AT(4092, 4, 0, 0), WAITING(MEMZERO(2, 5)), RAM_G_OF(16),
-      GIVES(30, 0, 0, 4092, 4092, 4, 0, 0) },
-    { CASE("MEMCPY lacks its count past the end"), AT(4088, 4, 0, 0), WAITING(MEMCPY(2, 9, 5)), RAM_G_OF(16),
-      GIVES(30, 0, 0, 4088, 4088, 4, 0, 0) },
-    { CASE("APPEND lacks its count at the end"), AT(4088, 0, 0, 0), WAITING(APPEND(5, 8)), RAM_G_OF(16),
-      GIVES(30, 0, 0, 4088, 4088, 0, 0, 0) },
+    { CASE("MEMSET lacks all parameters at the end"), AT(LAST, 0, 0, 0), WAITING(MEMSET(2, 0xAB, 5)), RAM_G_OF(16),
+      GIVES(30, 0, 0, LAST, LAST, 0, 0, 0) },
+    { CASE("MEMSET lacks its count past the end"), AT(LAST, 8, 0, 0), WAITING(MEMSET(2, 0xAB, 5)), RAM_G_OF(16),
+      GIVES(30, 0, 0, LAST, LAST, 8, 0, 0) },
+    { CASE("MEMSET lacks its count at the end"), AT(LAST - 8, 0, 0, 0), WAITING(MEMSET(2, 0xAB, 5)), RAM_G_OF(16),
+      GIVES(30, 0, 0, LAST - 8, LAST - 8, 0, 0, 0) },
+    { CASE("MEMZERO lacks its count past the end"), AT(LAST, 4, 0, 0), WAITING(MEMZERO(2, 5)), RAM_G_OF(16),
+      GIVES(30, 0, 0, LAST, LAST, 4, 0, 0) },
+    { CASE("MEMCPY lacks its count past the end"), AT(LAST - 4, 4, 0, 0), WAITING(MEMCPY(2, 9, 5)), RAM_G_OF(16),
+      GIVES(30, 0, 0, LAST - 4, LAST - 4, 4, 0, 0) },
+    { CASE("APPEND lacks its count at the end"), AT(LAST - 4, 0, 0, 0), WAITING(APPEND(5, 8)), RAM_G_OF(16),
+      GIVES(30, 0, 0, LAST - 4, LAST - 4, 0, 0, 0) },
 
-    { CASE("an unknown word at the end"), AT(4092, 0, 0, 0), WAITING(0xFFFFFF02),
-      GIVES(32, 4092, 0, 0xFFF, 4092, 0, 0, 1) },
-    { CASE("an unknown word at the start, behind the end"), AT(4092, 4, 0, 0), WAITING(0x12345678, 0xFFFFFF02),
+    { CASE("an unknown word at the end"), AT(LAST, 0, 0, 0), WAITING(0xFFFFFF02),
+      GIVES(32, LAST, 0, 0xFFF, LAST, 0, 0, 1) },
+    { CASE("an unknown word at the start, behind the end"), AT(LAST, 4, 0, 0), WAITING(0x12345678, 0xFFFFFF02),
       GIVES(32, 0, 1, 0xFFF, 0, 4, 4, 1), CHANGES(LIST_GETS(0, 0x12345678)) },
-    { CASE("a range at fault, by parameters past the end"), AT(4088, 8, 0, 0), WAITING(MEMSET(2, 0xAB, 15)),
-      RAM_G_OF(16), GIVES(35, 4088, 0, 0xFFF, 4088, 8, 0, 1) },
-    { CASE("RAM_DL full, by parameters past the end"), AT(4092, 8, 8188, 0), WAITING(APPEND(0, 8)), RAM_G_OF(16),
-      GIVES(34, 4092, 0, 0xFFF, 4092, 8, 8188, 1) },
+    { CASE("a range at fault, by parameters past the end"), AT(LAST - 4, 8, 0, 0), WAITING(MEMSET(2, 0xAB, 15)),
+      RAM_G_OF(16), GIVES(35, LAST - 4, 0, 0xFFF, LAST - 4, 8, 0, 1) },
+    { CASE("RAM_DL full, by parameters past the end"), AT(LAST, 8, FULL - 4, 0), WAITING(APPEND(0, 8)), RAM_G_OF(16),
+      GIVES(34, LAST, 0, 0xFFF, LAST, 8, FULL - 4, 1) },
 };
 
 /* ---- Several commands ---- */
@@ -128,12 +128,12 @@ static const hand_ring faults_behind_others[] = {
       CHANGES(LIST_GETS(400, 0x12345678), RAM_G_COPIES(0, 8, 8)) },
     { CASE("35 of APPEND"), AT(40, 72, 400, 0), WAITING(0x12345678, APPEND(0, 8), APPEND(0, 7), SWAP()), RAM_G_OF(16),
       GIVES(35, 56, 2, 0xFFF, 56, 72, 412, 1), CHANGES(LIST_GETS(400, 0x12345678), LIST_COPIES(404, 0, 8)) },
-    { CASE("34 of a word"), AT(40, 56, 8184, 0), WAITING(0x11111111, 0x22222222, 0x33333333, SWAP()),
-      GIVES(34, 48, 2, 0xFFF, 48, 56, 8192, 1), CHANGES(LIST_GETS(8184, 0x11111111, 0x22222222)) },
-    { CASE("34 of APPEND"), AT(40, 64, 8184, 0), WAITING(0x11111111, APPEND(0, 8), 0x33333333, SWAP()), RAM_G_OF(16),
-      GIVES(34, 44, 1, 0xFFF, 44, 64, 8188, 1), CHANGES(LIST_GETS(8184, 0x11111111)) },
-    { CASE("34 of a word behind an APPEND that fits"), AT(40, 56, 8184, 0), WAITING(APPEND(0, 8), 0x33333333),
-      RAM_G_OF(16), GIVES(34, 52, 1, 0xFFF, 52, 56, 8192, 1), CHANGES(LIST_COPIES(8184, 0, 8)) },
+    { CASE("34 of a word"), AT(40, 56, FULL - 8, 0), WAITING(0x11111111, 0x22222222, 0x33333333, SWAP()),
+      GIVES(34, 48, 2, 0xFFF, 48, 56, FULL, 1), CHANGES(LIST_GETS(FULL - 8, 0x11111111, 0x22222222)) },
+    { CASE("34 of APPEND"), AT(40, 64, FULL - 8, 0), WAITING(0x11111111, APPEND(0, 8), 0x33333333, SWAP()),
+      RAM_G_OF(16), GIVES(34, 44, 1, 0xFFF, 44, 64, FULL - 4, 1), CHANGES(LIST_GETS(FULL - 8, 0x11111111)) },
+    { CASE("34 of a word behind an APPEND that fits"), AT(40, 56, FULL - 8, 0), WAITING(APPEND(0, 8), 0x33333333),
+      RAM_G_OF(16), GIVES(34, 52, 1, 0xFFF, 52, 56, FULL, 1), CHANGES(LIST_COPIES(FULL - 8, 0, 8)) },
 };
 
 /* ---- Full rings ---- */
@@ -159,7 +159,7 @@ static void check_full_of(const char *what, uint32_t read, uint32_t number, uint
 {
     char name[64];
     snprintf(name, sizeof name, "1,023 times %s from %" PRIu32 " on", what, read);
-    uint32_t write = (read + MOST_WAITING_BYTES) % RING_BYTES;
+    uint32_t write = (read + JV_MAX_WAITING) % JV_RING_BYTES;
     check_ring(__FILE__,
                &(const hand_ring){ CASE(name), AT(read, write, 0, 0), .words = many, .count = MOST_WAITING_WORDS,
                                    GIVES(number, 0, count, moved, moved, write, left, 0), .changes = change,
@@ -168,13 +168,14 @@ static void check_full_of(const char *what, uint32_t read, uint32_t number, uint
 
 static void check_full_ring_at(uint32_t read)
 {
-    uint32_t all = (read + MOST_WAITING_BYTES) % RING_BYTES, one = (read + 4) % RING_BYTES;
+    uint32_t all = (read + JV_MAX_WAITING) % JV_RING_BYTES, one = (read + 4) % JV_RING_BYTES;
     fill_with_plain_words();
-    check_full_of("a word", read, 0, 1023, all, 4092, &(ring_change)LIST_GETS_FROM(many, 0, 4092));
+    check_full_of("a word", read, 0, MOST_WAITING_WORDS, all, JV_MAX_WAITING,
+                  &(ring_change)LIST_GETS_FROM(many, 0, JV_MAX_WAITING));
     fill_with(COLDSTART());
-    check_full_of("COLDSTART", read, 0, 1023, all, 0, NULL);
+    check_full_of("COLDSTART", read, 0, MOST_WAITING_WORDS, all, 0, NULL);
     fill_with(DLSTART());
-    check_full_of("DLSTART", read, 0, 1023, all, 0, NULL);
+    check_full_of("DLSTART", read, 0, MOST_WAITING_WORDS, all, 0, NULL);
     fill_with(SWAP());
     check_full_of("SWAP", read, 31, 1, one, 0, &(ring_change)SHOWN_IS_LIST);
 }
@@ -185,25 +186,29 @@ static void check_full_rings(void)
     check_full_ring_at(0);
     check_full_ring_at(4);
     check_full_ring_at(2048);
-    check_full_ring_at(4088);
-    check_full_ring_at(4092);
+    check_full_ring_at(LAST - 4);
+    check_full_ring_at(LAST);
 }
 
 static void check_full_rings_at_offsets(void)
 {
     begin_part("rings: full, and RAM_DL too");
     fill_with_plain_words();
-    check_ring(__FILE__, &(const hand_ring){ CASE("RAM_DL is full after the last"), AT(0, 4092, 4100, 0), .words = many,
-                                             .count = MOST_WAITING_WORDS, GIVES(0, 0, 1023, 4092, 4092, 4092, 8192, 0),
-                                             CHANGES(LIST_GETS_FROM(many, 4100, MOST_WAITING_BYTES)) });
     check_ring(__FILE__,
-               &(const hand_ring){ CASE("RAM_DL is full before the last"), AT(0, 4092, 4104, 0), .words = many,
-                                   .count = MOST_WAITING_WORDS, GIVES(34, 4088, 1022, 0xFFF, 4088, 4092, 8192, 1),
-                                   CHANGES(LIST_GETS_FROM(many, 4104, MOST_WAITING_BYTES - 4)) });
+               &(const hand_ring){ CASE("RAM_DL is full after the last"), AT(0, LAST, FULL - JV_MAX_WAITING, 0),
+                                   .words = many, .count = MOST_WAITING_WORDS,
+                                   GIVES(0, 0, MOST_WAITING_WORDS, LAST, LAST, LAST, FULL, 0),
+                                   CHANGES(LIST_GETS_FROM(many, FULL - JV_MAX_WAITING, JV_MAX_WAITING)) });
     check_ring(__FILE__,
-               &(const hand_ring){ CASE("RAM_DL is full before the last, past the ring's end"), AT(8, 4, 4104, 0),
-                                   .words = many, .count = MOST_WAITING_WORDS, GIVES(34, 0, 1022, 0xFFF, 0, 4, 8192, 1),
-                                   CHANGES(LIST_GETS_FROM(many, 4104, MOST_WAITING_BYTES - 4)) });
+               &(const hand_ring){ CASE("RAM_DL is full before the last"), AT(0, LAST, FULL - JV_MAX_WAITING + 4, 0),
+                                   .words = many, .count = MOST_WAITING_WORDS,
+                                   GIVES(34, LAST - 4, MOST_WAITING_WORDS - 1, 0xFFF, LAST - 4, LAST, FULL, 1),
+                                   CHANGES(LIST_GETS_FROM(many, FULL - JV_MAX_WAITING + 4, JV_MAX_WAITING - 4)) });
+    check_ring(__FILE__,
+               &(const hand_ring){ CASE("RAM_DL is full before the last, past the ring's end"),
+                                   AT(8, 4, FULL - JV_MAX_WAITING + 4, 0), .words = many, .count = MOST_WAITING_WORDS,
+                                   GIVES(34, 0, MOST_WAITING_WORDS - 1, 0xFFF, 0, 4, FULL, 1),
+                                   CHANGES(LIST_GETS_FROM(many, FULL - JV_MAX_WAITING + 4, JV_MAX_WAITING - 4)) });
 }
 
 /* 255 times MEMSET, each of one byte, and three words: 258 commands. Each fills the byte of its own number. */
@@ -228,13 +233,13 @@ static void check_full_ring_of_commands(void)
     check_ring(__FILE__, &full);
 
     full.name = "255 times MEMSET, two words and an unknown one";
-    many[1022] = 0xFFFFFF02;
+    many[MOST_WAITING_WORDS - 1] = 0xFFFFFF02;
     full.wanted = (jv_ring){ 32, 1992, 257, 0xFFF, 1992, 1996, 8, 1 };
     full.changes = (const ring_change[]){ LIST_GETS_FROM(&many[1020], 0, 8) };
     check_ring(__FILE__, &full);
 
     full.name = "255 times MEMSET, two words and one that lacks parameters";
-    many[1022] = FIRST_WORD(APPEND_BYTE);
+    many[MOST_WAITING_WORDS - 1] = FIRST_WORD(APPEND_BYTE);
     full.wanted = (jv_ring){ 30, 0, 257, 1992, 1992, 1996, 8, 0 };
     check_ring(__FILE__, &full);
 }
@@ -247,53 +252,53 @@ static const hand_ring host_words[] = {
     { CASE("commands, known or not, and parts of them"), AT(0, 0, 0, 0),
       HOST(SWAP(), 0xFFFFFFFF, FIRST_WORD(MEMSET_BYTE)), GIVES(0, 0, 0, 0, 0, 12, 0, 0),
       CHANGES(RING_GETS(0, SWAP(), 0xFFFFFFFF, FIRST_WORD(MEMSET_BYTE))) },
-    { CASE("behind those that wait"), AT(100, 200, 8192, 0), HOST(0x12345678, 0x23456789),
-      GIVES(0, 0, 0, 100, 100, 208, 8192, 0), CHANGES(RING_GETS(200, 0x12345678, 0x23456789)) },
+    { CASE("behind those that wait"), AT(100, 200, FULL, 0), HOST(0x12345678, 0x23456789),
+      GIVES(0, 0, 0, 100, 100, 208, FULL, 0), CHANGES(RING_GETS(200, 0x12345678, 0x23456789)) },
     { CASE("where nothing waits, at 400"), AT(400, 400, 8, 0), HOST(0x12345678), GIVES(0, 0, 0, 400, 400, 404, 8, 0),
       CHANGES(RING_GETS(400, 0x12345678)) },
-    { CASE("up to the ring's end"), AT(100, 4088, 0, 0), HOST(0x12345678, 0x23456789),
-      GIVES(0, 0, 0, 100, 100, 0, 0, 0), CHANGES(RING_GETS(4088, 0x12345678, 0x23456789)) },
-    { CASE("past the ring's end"), AT(100, 4088, 0, 0), HOST(0x12345678, 0x23456789, 0x3456789A),
-      GIVES(0, 0, 0, 100, 100, 4, 0, 0), CHANGES(RING_GETS(4088, 0x12345678, 0x23456789), RING_GETS(0, 0x3456789A)) },
-    { CASE("from the ring's last word on"), AT(100, 4092, 0, 0), HOST(0x12345678, 0x23456789, 0x3456789A),
-      GIVES(0, 0, 0, 100, 100, 8, 0, 0), CHANGES(RING_GETS(4092, 0x12345678), RING_GETS(0, 0x23456789, 0x3456789A)) },
+    { CASE("up to the ring's end"), AT(100, LAST - 4, 0, 0), HOST(0x12345678, 0x23456789),
+      GIVES(0, 0, 0, 100, 100, 0, 0, 0), CHANGES(RING_GETS(LAST - 4, 0x12345678, 0x23456789)) },
+    { CASE("past the ring's end"), AT(100, LAST - 4, 0, 0), HOST(0x12345678, 0x23456789, 0x3456789A),
+      GIVES(0, 0, 0, 100, 100, 4, 0, 0),
+      CHANGES(RING_GETS(LAST - 4, 0x12345678, 0x23456789), RING_GETS(0, 0x3456789A)) },
+    { CASE("from the ring's last word on"), AT(100, LAST, 0, 0), HOST(0x12345678, 0x23456789, 0x3456789A),
+      GIVES(0, 0, 0, 100, 100, 8, 0, 0), CHANGES(RING_GETS(LAST, 0x12345678), RING_GETS(0, 0x23456789, 0x3456789A)) },
     { CASE("in the room before the read mark"), AT(400, 100, 0, 0), HOST(0x12345678),
       GIVES(0, 0, 0, 400, 400, 104, 0, 0), CHANGES(RING_GETS(100, 0x12345678)) },
 
     { CASE("no words"), AT(100, 200, 8, 0), .call = WRITE_RING, GIVES(0, 0, 0, 100, 100, 200, 8, 0) },
-    { CASE("no words at the end"), AT(100, 4092, 8, 0), .call = WRITE_RING, GIVES(0, 0, 0, 100, 100, 4092, 8, 0) },
+    { CASE("no words at the end"), AT(100, LAST, 8, 0), .call = WRITE_RING, GIVES(0, 0, 0, 100, 100, LAST, 8, 0) },
     { CASE("no words into a full ring"), AT(100, 96, 8, 0), .call = WRITE_RING, GIVES(0, 0, 0, 100, 100, 96, 8, 0) },
 
     { CASE("room for one word"), AT(8, 0, 0, 0), HOST(0x12345678), GIVES(0, 0, 0, 8, 8, 4, 0, 0),
       CHANGES(RING_GETS(0, 0x12345678)) },
     { CASE("one word more than the room for one"), AT(8, 0, 0, 0), HOST(0x12345678, 0x23456789),
       GIVES(38, 0, 0, 8, 8, 0, 0, 0) },
-    { CASE("room for one word, at the end"), AT(0, 4088, 0, 0), HOST(0x12345678), GIVES(0, 0, 0, 0, 0, 4092, 0, 0),
-      CHANGES(RING_GETS(4088, 0x12345678)) },
-    { CASE("one word more than the room for one, at the end"), AT(0, 4088, 0, 0), HOST(0x12345678, 0x23456789),
-      GIVES(38, 0, 0, 0, 0, 4088, 0, 0) },
-    { CASE("room for three words, past the end"), AT(8, 4088, 0, 0), HOST(0x12345678, 0x23456789, 0x3456789A),
-      GIVES(0, 0, 0, 8, 8, 4, 0, 0), CHANGES(RING_GETS(4088, 0x12345678, 0x23456789), RING_GETS(0, 0x3456789A)) },
-    { CASE("one word more than the room for three, past the end"), AT(8, 4088, 0, 0),
-      HOST(0x12345678, 0x23456789, 0x3456789A, 0x456789AB), GIVES(38, 0, 0, 8, 8, 4088, 0, 0) },
-    { CASE("a word into a full ring"), AT(0, 4092, 0, 0), HOST(0x12345678), GIVES(38, 0, 0, 0, 0, 4092, 0, 0) },
-    { CASE("a word into a full ring, at another place"), AT(400, 396, 8192, 0), HOST(0x12345678),
-      GIVES(38, 0, 0, 400, 400, 396, 8192, 0) },
+    { CASE("room for one word, at the end"), AT(0, LAST - 4, 0, 0), HOST(0x12345678), GIVES(0, 0, 0, 0, 0, LAST, 0, 0),
+      CHANGES(RING_GETS(LAST - 4, 0x12345678)) },
+    { CASE("one word more than the room for one, at the end"), AT(0, LAST - 4, 0, 0), HOST(0x12345678, 0x23456789),
+      GIVES(38, 0, 0, 0, 0, LAST - 4, 0, 0) },
+    { CASE("room for three words, past the end"), AT(8, LAST - 4, 0, 0), HOST(0x12345678, 0x23456789, 0x3456789A),
+      GIVES(0, 0, 0, 8, 8, 4, 0, 0), CHANGES(RING_GETS(LAST - 4, 0x12345678, 0x23456789), RING_GETS(0, 0x3456789A)) },
+    { CASE("one word more than the room for three, past the end"), AT(8, LAST - 4, 0, 0),
+      HOST(0x12345678, 0x23456789, 0x3456789A, 0x456789AB), GIVES(38, 0, 0, 8, 8, LAST - 4, 0, 0) },
+    { CASE("a word into a full ring"), AT(0, LAST, 0, 0), HOST(0x12345678), GIVES(38, 0, 0, 0, 0, LAST, 0, 0) },
+    { CASE("a word into a full ring, at another place"), AT(400, 396, FULL, 0), HOST(0x12345678),
+      GIVES(38, 0, 0, 400, 400, 396, FULL, 0) },
 };
 
 /* All the room there is, from `place` on, and more. */
 static void check_most_words_at(uint32_t place)
 {
-    uint32_t full = (place + MOST_WAITING_BYTES) % RING_BYTES, up_to_end = RING_BYTES - place;
-    uint32_t first = up_to_end < MOST_WAITING_BYTES ? up_to_end : MOST_WAITING_BYTES;
+    uint32_t full = (place + JV_MAX_WAITING) % JV_RING_BYTES, up_to_end = JV_RING_BYTES - place;
+    uint32_t first = up_to_end < JV_MAX_WAITING ? up_to_end : JV_MAX_WAITING;
     char name[48];
     fill_with_plain_words();
     snprintf(name, sizeof name, "1,023 words at %" PRIu32, place);
-    check_ring(__FILE__,
-               &(const hand_ring){ CASE(name), AT(place, place, 0, 0), .call = WRITE_RING, .words = many,
-                                   .count = MOST_WAITING_WORDS, GIVES(0, 0, 0, place, place, full, 0, 0),
-                                   CHANGES(RING_GETS_FROM(many, place, first),
-                                           RING_GETS_FROM(&many[first / 4], 0, MOST_WAITING_BYTES - first)) });
+    check_ring(__FILE__, &(const hand_ring){ CASE(name), AT(place, place, 0, 0), .call = WRITE_RING, .words = many,
+                                             .count = MOST_WAITING_WORDS, GIVES(0, 0, 0, place, place, full, 0, 0),
+                                             CHANGES(RING_GETS_FROM(many, place, first),
+                                                     RING_GETS_FROM(&many[first / 4], 0, JV_MAX_WAITING - first)) });
     snprintf(name, sizeof name, "1,024 words at %" PRIu32, place);
     check_ring(__FILE__,
                &(const hand_ring){ CASE(name), AT(place, place, 0, 0), .call = WRITE_RING, .words = many,
@@ -311,8 +316,8 @@ static void check_most_words(void)
     check_most_words_at(4);
     check_most_words_at(8);
     check_most_words_at(2048);
-    check_most_words_at(4088);
-    check_most_words_at(4092);
+    check_most_words_at(LAST - 4);
+    check_most_words_at(LAST);
 }
 
 /* ---- Calls in turn ---- */
@@ -333,11 +338,11 @@ static const hand_ring swap_and_on[] = {
 };
 
 static const hand_ring fault_and_reset[] = {
-    { CASE("the host writes words and one that is unknown"), AT(4084, 4084, 0, 0), RAM_G_OF(16),
-      HOST(0x11111111, MEMZERO(0, 4), 0xFFFFFF02, 0x22222222, SWAP()), GIVES(0, 0, 0, 4084, 4084, 16, 0, 0),
-      CHANGES(RING_GETS(4084, 0x11111111, FIRST_WORD(MEMZERO_BYTE), 0),
+    { CASE("the host writes words and one that is unknown"), AT(LAST - 8, LAST - 8, 0, 0), RAM_G_OF(16),
+      HOST(0x11111111, MEMZERO(0, 4), 0xFFFFFF02, 0x22222222, SWAP()), GIVES(0, 0, 0, LAST - 8, LAST - 8, 16, 0, 0),
+      CHANGES(RING_GETS(LAST - 8, 0x11111111, FIRST_WORD(MEMZERO_BYTE), 0),
               RING_GETS(0, 4, 0xFFFFFF02, 0x22222222, SWAP())) },
-    { CASE("a fault"), AT(4084, 16, 0, 0), GIVES(32, 4, 2, 0xFFF, 4, 16, 4, 1),
+    { CASE("a fault"), AT(LAST - 8, 16, 0, 0), GIVES(32, 4, 2, 0xFFF, 4, 16, 4, 1),
       CHANGES(LIST_GETS(0, 0x11111111), RAM_G_FILLS(0, 0, 4)) },
     { CASE("a run under it"), AT(4, 16, 4, 1), GIVES(36, 0, 0, 0xFFF, 4, 16, 4, 1) },
     { CASE("a write under it"), AT(4, 16, 4, 1), HOST(0x33333333), GIVES(36, 0, 0, 0xFFF, 4, 16, 4, 1) },
@@ -353,9 +358,9 @@ static const hand_ring fault_and_reset[] = {
 
 /* The marks of a full RAM_DL stay at the fault; DLSTART is of no use before the reset. */
 static const hand_ring full_list_and_reset[] = {
-    { CASE("two words for the last place"), AT(0, 12, 8188, 0), WAITING(0x11111111, 0x22222222, DLSTART()),
-      GIVES(34, 4, 1, 0xFFF, 4, 12, 8192, 1), CHANGES(LIST_GETS(8188, 0x11111111)) },
-    { CASE("a run under the fault"), AT(4, 12, 8192, 1), GIVES(36, 0, 0, 0xFFF, 4, 12, 8192, 1) },
+    { CASE("two words for the last place"), AT(0, 12, FULL - 4, 0), WAITING(0x11111111, 0x22222222, DLSTART()),
+      GIVES(34, 4, 1, 0xFFF, 4, 12, FULL, 1), CHANGES(LIST_GETS(FULL - 4, 0x11111111)) },
+    { CASE("a run under the fault"), AT(4, 12, FULL, 1), GIVES(36, 0, 0, 0xFFF, 4, 12, FULL, 1) },
     { CASE("the reset"), RESET, GIVES(0, 0, 0, 0, 0, 0, 0, 0) },
     { CASE("the host writes again"), AT(0, 0, 0, 0), HOST(0x33333333), GIVES(0, 0, 0, 0, 0, 4, 0, 0),
       CHANGES(RING_GETS(0, 0x33333333)) },
@@ -363,20 +368,21 @@ static const hand_ring full_list_and_reset[] = {
 };
 
 static const hand_ring parameters_one_by_one[] = {
-    { CASE("MEMCPY without parameters"), AT(4084, 4084, 0, 0), RAM_G_IS(1, 2, 3, 4, 5, 6),
-      HOST(0x11111111, FIRST_WORD(MEMCPY_BYTE)), GIVES(0, 0, 0, 4084, 4084, 4092, 0, 0),
-      CHANGES(RING_GETS(4084, 0x11111111, FIRST_WORD(MEMCPY_BYTE))) },
-    { CASE("it waits"), AT(4084, 4092, 0, 0), GIVES(30, 0, 1, 4088, 4088, 4092, 4, 0),
+    { CASE("MEMCPY without parameters"), AT(LAST - 8, LAST - 8, 0, 0), RAM_G_IS(1, 2, 3, 4, 5, 6),
+      HOST(0x11111111, FIRST_WORD(MEMCPY_BYTE)), GIVES(0, 0, 0, LAST - 8, LAST - 8, LAST, 0, 0),
+      CHANGES(RING_GETS(LAST - 8, 0x11111111, FIRST_WORD(MEMCPY_BYTE))) },
+    { CASE("it waits"), AT(LAST - 8, LAST, 0, 0), GIVES(30, 0, 1, LAST - 4, LAST - 4, LAST, 4, 0),
       CHANGES(LIST_GETS(0, 0x11111111)) },
-    { CASE("it still waits"), AT(4088, 4092, 4, 0), GIVES(30, 0, 0, 4088, 4088, 4092, 4, 0) },
-    { CASE("the target"), AT(4088, 4092, 4, 0), HOST(2), GIVES(0, 0, 0, 4088, 4088, 0, 4, 0),
-      CHANGES(RING_GETS(4092, 2)) },
-    { CASE("it waits for the source"), AT(4088, 0, 4, 0), GIVES(30, 0, 0, 4088, 4088, 0, 4, 0) },
-    { CASE("the source"), AT(4088, 0, 4, 0), HOST(0), GIVES(0, 0, 0, 4088, 4088, 4, 4, 0), CHANGES(RING_GETS(0, 0)) },
-    { CASE("it waits for the count"), AT(4088, 4, 4, 0), GIVES(30, 0, 0, 4088, 4088, 4, 4, 0) },
-    { CASE("the count, and a word"), AT(4088, 4, 4, 0), HOST(3, 0x22222222), GIVES(0, 0, 0, 4088, 4088, 12, 4, 0),
-      CHANGES(RING_GETS(4, 3, 0x22222222)) },
-    { CASE("it is taken"), AT(4088, 12, 4, 0), GIVES(0, 0, 2, 12, 12, 12, 8, 0), CHANGES(LIST_GETS(4, 0x22222222)),
+    { CASE("it still waits"), AT(LAST - 4, LAST, 4, 0), GIVES(30, 0, 0, LAST - 4, LAST - 4, LAST, 4, 0) },
+    { CASE("the target"), AT(LAST - 4, LAST, 4, 0), HOST(2), GIVES(0, 0, 0, LAST - 4, LAST - 4, 0, 4, 0),
+      CHANGES(RING_GETS(LAST, 2)) },
+    { CASE("it waits for the source"), AT(LAST - 4, 0, 4, 0), GIVES(30, 0, 0, LAST - 4, LAST - 4, 0, 4, 0) },
+    { CASE("the source"), AT(LAST - 4, 0, 4, 0), HOST(0), GIVES(0, 0, 0, LAST - 4, LAST - 4, 4, 4, 0),
+      CHANGES(RING_GETS(0, 0)) },
+    { CASE("it waits for the count"), AT(LAST - 4, 4, 4, 0), GIVES(30, 0, 0, LAST - 4, LAST - 4, 4, 4, 0) },
+    { CASE("the count, and a word"), AT(LAST - 4, 4, 4, 0), HOST(3, 0x22222222),
+      GIVES(0, 0, 0, LAST - 4, LAST - 4, 12, 4, 0), CHANGES(RING_GETS(4, 3, 0x22222222)) },
+    { CASE("it is taken"), AT(LAST - 4, 12, 4, 0), GIVES(0, 0, 2, 12, 12, 12, 8, 0), CHANGES(LIST_GETS(4, 0x22222222)),
       RAM_G_BECOMES(1, 2, 1, 2, 3, 6) },
 };
 
@@ -387,20 +393,22 @@ static void check_full_circle(void)
     many[2] = SWAP();
     static const uint32_t more[] = { 0x11111111, 0x22222222, 0x33333333, 0x44444444 };
     const hand_ring table[] = {
-        { CASE("1,023 words at 4088"), AT(4088, 4088, 0, 0), .call = WRITE_RING, .words = many,
-          .count = MOST_WAITING_WORDS, GIVES(0, 0, 0, 4088, 4088, 4084, 0, 0),
-          CHANGES(RING_GETS_FROM(many, 4088, 8), RING_GETS_FROM(&many[2], 0, 4084)) },
-        { CASE("a word more"), AT(4088, 4084, 0, 0), HOST(0x12345678), GIVES(38, 0, 0, 4088, 4088, 4084, 0, 0) },
-        { CASE("run up to the swap"), AT(4088, 4084, 0, 0), GIVES(31, 0, 3, 4, 4, 4084, 8, 0),
+        { CASE("1,023 words at 4088"), AT(LAST - 4, LAST - 4, 0, 0), .call = WRITE_RING, .words = many,
+          .count = MOST_WAITING_WORDS, GIVES(0, 0, 0, LAST - 4, LAST - 4, LAST - 8, 0, 0),
+          CHANGES(RING_GETS_FROM(many, LAST - 4, 8), RING_GETS_FROM(&many[2], 0, JV_MAX_WAITING - 8)) },
+        { CASE("a word more"), AT(LAST - 4, LAST - 8, 0, 0), HOST(0x12345678),
+          GIVES(38, 0, 0, LAST - 4, LAST - 4, LAST - 8, 0, 0) },
+        { CASE("run up to the swap"), AT(LAST - 4, LAST - 8, 0, 0), GIVES(31, 0, 3, 4, 4, LAST - 8, 8, 0),
           CHANGES(LIST_GETS_FROM(many, 0, 8), SHOWN_IS_LIST) },
-        { CASE("four words"), AT(4, 4084, 8, 0), .call = WRITE_RING, .words = more, .count = 4,
-          GIVES(38, 0, 0, 4, 4, 4084, 8, 0) },
-        { CASE("three words"), AT(4, 4084, 8, 0), .call = WRITE_RING, .words = more, .count = 3,
-          GIVES(0, 0, 0, 4, 4, 0, 8, 0), CHANGES(RING_GETS_FROM(more, 4084, 12)) },
-        { CASE("all of it"), AT(4, 0, 8, 0), GIVES(0, 0, 1023, 0, 0, 0, 4100, 0),
-          CHANGES(LIST_GETS_FROM(&many[3], 8, 4080), LIST_GETS_FROM(more, 4088, 12)) },
-        { CASE("as much again"), AT(0, 0, 4100, 0), .call = WRITE_RING, .words = many, .count = MOST_WAITING_WORDS,
-          GIVES(0, 0, 0, 0, 0, 4092, 4100, 0), CHANGES(RING_GETS_FROM(many, 0, 4092)) },
+        { CASE("four words"), AT(4, LAST - 8, 8, 0), .call = WRITE_RING, .words = more, .count = 4,
+          GIVES(38, 0, 0, 4, 4, LAST - 8, 8, 0) },
+        { CASE("three words"), AT(4, LAST - 8, 8, 0), .call = WRITE_RING, .words = more, .count = 3,
+          GIVES(0, 0, 0, 4, 4, 0, 8, 0), CHANGES(RING_GETS_FROM(more, LAST - 8, 12)) },
+        { CASE("all of it"), AT(4, 0, 8, 0), GIVES(0, 0, MOST_WAITING_WORDS, 0, 0, 0, JV_MAX_WAITING + 8, 0),
+          CHANGES(LIST_GETS_FROM(&many[3], 8, JV_MAX_WAITING - 12), LIST_GETS_FROM(more, JV_MAX_WAITING - 4, 12)) },
+        { CASE("as much again"), AT(0, 0, JV_MAX_WAITING + 8, 0), .call = WRITE_RING, .words = many,
+          .count = MOST_WAITING_WORDS, GIVES(0, 0, 0, 0, 0, LAST, JV_MAX_WAITING + 8, 0),
+          CHANGES(RING_GETS_FROM(many, 0, JV_MAX_WAITING)) },
     };
     CHECK_RINGS_IN_TURN("rings in turn: full twice", table);
 }

@@ -467,7 +467,7 @@ static const hand_picture scissors[] = {
             "..##",
             "..##") },
     { CASE("past the frame's edges"),
-      LIST(SCISSOR_XY(3, 2), SCISSOR_SIZE(2048, 2048), BEGIN_EVERYWHERE, EVERYWHERE, DISPLAY()),
+      LIST(SCISSOR_XY(3, 2), SCISSOR_SIZE(JV_MAX_SCISSOR, JV_MAX_SCISSOR), BEGIN_EVERYWHERE, EVERYWHERE, DISPLAY()),
       SHOWS("....",
             "....",
             "...#") },

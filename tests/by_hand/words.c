@@ -66,7 +66,7 @@ static const struct {
     { 0x7FF80000, { JV_VERTEX2F, { (uint32_t)-16, 0 } } },
     { 0x9B86EFD4, { JV_VERTEX2II, { 220, 110, 31, 84 } } },
     { 0x1C05003C, { JV_SCISSOR_SIZE, { 80, 60 } } },
-    { 0x1C800800, { JV_SCISSOR_SIZE, { 2048, 2048 } } },
+    { 0x1C800800, { JV_SCISSOR_SIZE, { JV_MAX_SCISSOR, JV_MAX_SCISSOR } } },
 
     /* One of each command, no two fields of a word alike. */
     { 0x00000000, { JV_DISPLAY, { 0 } } },
@@ -76,13 +76,13 @@ static const struct {
     { 0x04FF6432, { JV_COLOR_RGB, { 255, 100, 50 } } },
     { 0x0500001F, { JV_BITMAP_HANDLE, { 31 } } },
     { 0x06000047, { JV_CELL, { 71 } } },
-    { 0x07390040, { JV_BITMAP_LAYOUT, { 7, 128, 64 } } },
-    { 0x08148030, { JV_BITMAP_SIZE, { 1, 0, 1, 64, 48 } } },
-    { 0x080BFE01, { JV_BITMAP_SIZE, { 0, 1, 0, 511, 1 } } },
-    { 0x09000480, { JV_ALPHA_FUNC, { 4, 128 } } },
-    { 0x0A0502FF, { JV_STENCIL_FUNC, { 5, 2, 255 } } },
-    { 0x0B000014, { JV_BLEND_FUNC, { 2, 4 } } },
-    { 0x0C00000B, { JV_STENCIL_OP, { 1, 3 } } },
+    { 0x07390040, { JV_BITMAP_LAYOUT, { JV_FORMAT_RGB565, 128, 64 } } },
+    { 0x08148030, { JV_BITMAP_SIZE, { JV_FILTER_BILINEAR, JV_WRAP_BORDER, JV_WRAP_REPEAT, 64, 48 } } },
+    { 0x080BFE01, { JV_BITMAP_SIZE, { JV_FILTER_NEAREST, JV_WRAP_REPEAT, JV_WRAP_BORDER, 511, 1 } } },
+    { 0x09000480, { JV_ALPHA_FUNC, { JV_TEST_GEQUAL, 128 } } },
+    { 0x0A0502FF, { JV_STENCIL_FUNC, { JV_TEST_EQUAL, 2, 255 } } },
+    { 0x0B000014, { JV_BLEND_FUNC, { JV_FACTOR_SRC_ALPHA, JV_FACTOR_ONE_MINUS_SRC_ALPHA } } },
+    { 0x0C00000B, { JV_STENCIL_OP, { JV_ACTION_KEEP, JV_ACTION_INCR } } },
     { 0x0D0000A0, { JV_POINT_SIZE, { 160 } } },
     { 0x0E000050, { JV_LINE_WIDTH, { 80 } } },
     { 0x0F0000C8, { JV_CLEAR_COLOR_A, { 200 } } },
@@ -102,7 +102,7 @@ static const struct {
     { 0x1C001000, { JV_SCISSOR_SIZE, { 1, 0 } } },
     { 0x1D001FFC, { JV_CALL, { 8188 } } },
     { 0x1E00FFFF, { JV_JUMP, { 65535 } } },
-    { 0x1F000009, { JV_BEGIN, { 9 } } },
+    { 0x1F000009, { JV_BEGIN, { JV_PRIMITIVE_RECTS } } },
     { 0x2000000B, { JV_COLOR_MASK, { 1, 0, 1, 1 } } },
     { 0x20000006, { JV_COLOR_MASK, { 0, 1, 1, 0 } } },
     { 0x21000000, { JV_END, { 0 } } },
@@ -129,12 +129,12 @@ static const struct {
     { 0x1D002000, { JV_CALL, { 8192 } } },
     { 0x1D00FFFF, { JV_CALL, { 65535 } } },
     { 0x1E001FFD, { JV_JUMP, { 8189 } } },
-    { 0x1F000003, { JV_BEGIN, { 3 } } },
-    { 0x1F000004, { JV_BEGIN, { 4 } } },
-    { 0x1F000005, { JV_BEGIN, { 5 } } },
-    { 0x1F000006, { JV_BEGIN, { 6 } } },
-    { 0x1F000007, { JV_BEGIN, { 7 } } },
-    { 0x1F000008, { JV_BEGIN, { 8 } } },
+    { 0x1F000003, { JV_BEGIN, { JV_PRIMITIVE_LINES } } },
+    { 0x1F000004, { JV_BEGIN, { JV_PRIMITIVE_LINE_STRIP } } },
+    { 0x1F000005, { JV_BEGIN, { JV_PRIMITIVE_EDGE_STRIP_R } } },
+    { 0x1F000006, { JV_BEGIN, { JV_PRIMITIVE_EDGE_STRIP_L } } },
+    { 0x1F000007, { JV_BEGIN, { JV_PRIMITIVE_EDGE_STRIP_A } } },
+    { 0x1F000008, { JV_BEGIN, { JV_PRIMITIVE_EDGE_STRIP_B } } },
     { 0x25000000, { JV_MACRO, { 0 } } },
     { 0x07000000, { JV_BITMAP_LAYOUT, { 0, 0, 0 } } },
     { 0x07080000, { JV_BITMAP_LAYOUT, { 1, 0, 0 } } },
@@ -287,36 +287,36 @@ static void check_refused(uint32_t bits, uint32_t command, uint32_t a, uint32_t 
 
 static void check_values_without_meaning(void)
 {
-    begin_part("test function above 7");
-    for (uint32_t func = 8; func <= 15; func++) {
+    begin_part("test function above ALWAYS");
+    for (uint32_t func = JV_TEST_ALWAYS + 1; func <= 15; func++) {
         check_refused(0x0A000000 | func << 16, JV_STENCIL_FUNC, func, 0);
         CHECK_WRITE(instruct(JV_ALPHA_FUNC, func, 0, 0, 0, 0), refused_bits(12));
     }
-    begin_part("stencil action above 5");
-    for (uint32_t action = 6; action <= 7; action++) {
+    begin_part("stencil action above INVERT");
+    for (uint32_t action = JV_ACTION_INVERT + 1; action <= 7; action++) {
         check_refused(0x0C000000 | action << 3, JV_STENCIL_OP, action, 0);
         check_refused(0x0C000000 | action, JV_STENCIL_OP, 0, action);
     }
-    begin_part("blend factor above 5");
-    for (uint32_t factor = 6; factor <= 7; factor++) {
+    begin_part("blend factor above ONE_MINUS_DST_ALPHA");
+    for (uint32_t factor = JV_FACTOR_ONE_MINUS_DST_ALPHA + 1; factor <= 7; factor++) {
         check_refused(0x0B000000 | factor << 3, JV_BLEND_FUNC, factor, 0);
         check_refused(0x0B000000 | factor, JV_BLEND_FUNC, 0, factor);
     }
-    begin_part("primitive 0 or above 9");
+    begin_part("primitive 0 or above RECTS");
     check_refused(0x1F000000, JV_BEGIN, 0, 0);
-    for (uint32_t prim = 10; prim <= 15; prim++)
+    for (uint32_t prim = JV_PRIMITIVE_RECTS + 1; prim <= 15; prim++)
         check_refused(0x1F000000 | prim, JV_BEGIN, prim, 0);
     begin_part("format without meaning");
     check_refused(0x07400000, JV_BITMAP_LAYOUT, 8, 0);
     check_refused(0x07600000, JV_BITMAP_LAYOUT, 12, 0);
     check_refused(0x07680000, JV_BITMAP_LAYOUT, 13, 0);
-    for (uint32_t format = 18; format <= 31; format++)
+    for (uint32_t format = JV_FORMAT_L2 + 1; format <= 31; format++)
         check_refused(0x07000000 | format << 19, JV_BITMAP_LAYOUT, format, 0);
-    begin_part("frac above 4");
-    for (uint32_t frac = 5; frac <= 7; frac++)
+    begin_part("frac too large");
+    for (uint32_t frac = JV_MAX_FRAC + 1; frac <= 7; frac++)
         check_refused(0x27000000 | frac, JV_VERTEX_FORMAT, frac, 0);
-    begin_part("scissor width or height above 2048");
-    for (uint32_t size = 2049; size <= 4095; size++) {
+    begin_part("scissor width or height too large");
+    for (uint32_t size = JV_MAX_SCISSOR + 1; size <= 4095; size++) {
         check_refused(0x1C000000 | size << 12, JV_SCISSOR_SIZE, size, 0);
         check_refused(0x1C000000 | size, JV_SCISSOR_SIZE, 0, size);
     }

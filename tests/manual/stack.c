@@ -12,16 +12,15 @@
 
 #include "jokulvisp.h"
 
-enum { WIDTH = 8, HEIGHT = 8, LIMIT = 65536, LIST_LENGTH = 8192, STACK_LENGTH = 1 << 20 };
-enum { POINTS = 2, LINE_STRIP = 4 };
+enum { WIDTH = 8, HEIGHT = 8, STACK_LENGTH = 1 << 20 };
 
 /* What the stack holds before the call, and how much below the caller's frame is left to memset itself. */
 enum { UNTOUCHED = 0xA5, MARGIN = 1024 };
 
 static _Alignas(4096) uint8_t stack[STACK_LENGTH];
-static uint8_t old_list[LIST_LENGTH], new_list[LIST_LENGTH];
+static uint8_t old_list[JV_MAX_LIST_BYTES], new_list[JV_MAX_LIST_BYTES];
 static uint8_t picture[3 * WIDTH * HEIGHT], tags[WIDTH * HEIGHT], marks[HEIGHT];
-static uint8_t ring[4096], ram_dl[8192], shown[8192], ram_g[64];
+static uint8_t ring[JV_RING_BYTES], ram_dl[JV_RAM_DL_BYTES], shown[JV_RAM_DL_BYTES], ram_g[64];
 
 static void put_word(uint8_t *bytes, size_t at, uint32_t bits)
 {
@@ -35,11 +34,11 @@ static void make_list(uint8_t *list, uint32_t size)
 {
     put_word(list, 0, jv_write_word(JV_POINT_SIZE, size, 0, 0, 0, 0).bits);
     put_word(list, 4, jv_write_word(JV_LINE_WIDTH, size, 0, 0, 0, 0).bits);
-    for (size_t at = 8; at < LIST_LENGTH - 4; at += 4)
+    for (size_t at = 8; at < JV_MAX_LIST_BYTES - 4; at += 4)
         put_word(list, at, jv_write_word(JV_VERTEX2II, at / 4 % WIDTH, 1, 0, 0, 0).bits);
-    put_word(list, 8, jv_write_word(JV_BEGIN, POINTS, 0, 0, 0, 0).bits);
-    put_word(list, LIST_LENGTH / 2, jv_write_word(JV_BEGIN, LINE_STRIP, 0, 0, 0, 0).bits);
-    put_word(list, LIST_LENGTH - 4, jv_write_word(JV_DISPLAY, 0, 0, 0, 0, 0).bits);
+    put_word(list, 8, jv_write_word(JV_BEGIN, JV_PRIMITIVE_POINTS, 0, 0, 0, 0).bits);
+    put_word(list, JV_MAX_LIST_BYTES / 2, jv_write_word(JV_BEGIN, JV_PRIMITIVE_LINE_STRIP, 0, 0, 0, 0).bits);
+    put_word(list, JV_MAX_LIST_BYTES - 4, jv_write_word(JV_DISPLAY, 0, 0, 0, 0, 0).bits);
 }
 
 static void read_word(void)
@@ -54,23 +53,24 @@ static void write_word(void)
 
 static void check(void)
 {
-    jv_check(old_list, LIST_LENGTH, NULL, 0, WIDTH, HEIGHT, LIMIT);
+    jv_check(old_list, JV_MAX_LIST_BYTES, NULL, 0, WIDTH, HEIGHT, JV_MAX_LIMIT);
 }
 
 static void paint(void)
 {
-    jv_paint(old_list, LIST_LENGTH, NULL, 0, WIDTH, HEIGHT, LIMIT, picture, sizeof picture, tags, sizeof tags);
+    jv_paint(old_list, JV_MAX_LIST_BYTES, NULL, 0, WIDTH, HEIGHT, JV_MAX_LIMIT, picture, sizeof picture, tags,
+             sizeof tags);
 }
 
 static void paint_row(void)
 {
-    jv_paint_row(old_list, LIST_LENGTH, NULL, 0, WIDTH, HEIGHT, 1, LIMIT, picture, 3 * WIDTH, tags, WIDTH);
+    jv_paint_row(old_list, JV_MAX_LIST_BYTES, NULL, 0, WIDTH, HEIGHT, 1, JV_MAX_LIMIT, picture, 3 * WIDTH, tags, WIDTH);
 }
 
 static void repaint(void)
 {
-    jv_repaint(old_list, LIST_LENGTH, new_list, LIST_LENGTH, NULL, 0, WIDTH, HEIGHT, LIMIT, picture, sizeof picture,
-               tags, sizeof tags, marks, sizeof marks);
+    jv_repaint(old_list, JV_MAX_LIST_BYTES, new_list, JV_MAX_LIST_BYTES, NULL, 0, WIDTH, HEIGHT, JV_MAX_LIMIT, picture,
+               sizeof picture, tags, sizeof tags, marks, sizeof marks);
 }
 
 static const uint32_t ring_words[] = {
@@ -90,7 +90,7 @@ static void run_ring(void)
 
 static void write_ring(void)
 {
-    jv_ring_write(ring, sizeof ring, old_list, 4092, 2048, 2048, 0, 0);
+    jv_ring_write(ring, sizeof ring, old_list, JV_MAX_WAITING, JV_RING_BYTES / 2, JV_RING_BYTES / 2, 0, 0);
 }
 
 static void reset_ring(void)

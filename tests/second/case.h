@@ -7,7 +7,9 @@
 #include <stdbool.h>
 #include <stdint.h>
 
-enum { MOST_NUMBERS = 12, MOST_RUNS = 12, MOST_RUN_WORDS = 2052 };
+#include "jokulvisp.h"
+
+enum { MOST_NUMBERS = 12, MOST_RUNS = 12, MOST_RUN_WORDS = JV_MAX_LIST_BYTES / 4 + 4 };
 
 /* An amount gets smaller by halves, towards its rest; a pattern bit by bit. An oddity is an amount that says something
    only where it is not at its rest. A place is an amount, of bytes before the words of a call, that may have to move

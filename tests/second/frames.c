@@ -17,8 +17,9 @@ static uint32_t draw_side(uint32_t usual, uint32_t most, const frame_manner *m)
 
 frame_size draw_frame(const frame_manner *m)
 {
-    uint32_t width = draw_side(m->usual.width, 800, m), height = draw_side(m->usual.height, 600, m);
-    return draw_once_in(m->full_in) ? (frame_size){ 800, 600 } : (frame_size){ width, height };
+    uint32_t width = draw_side(m->usual.width, JV_MAX_WIDTH, m);
+    uint32_t height = draw_side(m->usual.height, JV_MAX_HEIGHT, m);
+    return draw_once_in(m->full_in) ? (frame_size){ JV_MAX_WIDTH, JV_MAX_HEIGHT } : (frame_size){ width, height };
 }
 
 case_number draw_beside(const char *name, uint32_t times)

@@ -11,7 +11,7 @@
 #include "made_lists.h"
 
 /* The longest sides that are drawn, just out of bounds. */
-enum { WIDEST = 803, HIGHEST = 603 };
+enum { WIDEST = JV_MAX_WIDTH + 3, HIGHEST = JV_MAX_HEIGHT + 3 };
 
 /* How large a frame is for the most part, and once in how many times a side is out of bounds or larger than that, and
    the frame the largest there is. */

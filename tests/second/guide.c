@@ -5,74 +5,77 @@
 /* Each field as the guide prints it: name, highest bit, lowest bit. The guide's colour tables print blue before green,
    at odds with its own parameter lists; here the order is red, green, blue. */
 const entry guide[COMMANDS] = {
-    { "DISPLAY", 0x00, 0, { { 0 } } },
-    { "BITMAP_SOURCE", 0x01, 1, { { "addr", 21, 0, UNSIGNED, PLAIN } } },
-    { "CLEAR_COLOR_RGB", 0x02, 3, { { "red", 23, 16, UNSIGNED, PLAIN },
-                                    { "green", 15, 8, UNSIGNED, PLAIN },
-                                    { "blue", 7, 0, UNSIGNED, PLAIN } } },
-    { "TAG", 0x03, 1, { { "s", 7, 0, UNSIGNED, PLAIN } } },
-    { "COLOR_RGB", 0x04, 3, { { "red", 23, 16, UNSIGNED, PLAIN },
-                              { "green", 15, 8, UNSIGNED, PLAIN },
-                              { "blue", 7, 0, UNSIGNED, PLAIN } } },
-    { "BITMAP_HANDLE", 0x05, 1, { { "handle", 4, 0, UNSIGNED, PLAIN } } },
-    { "CELL", 0x06, 1, { { "cell", 6, 0, UNSIGNED, PLAIN } } },
-    { "BITMAP_LAYOUT", 0x07, 3, { { "format", 23, 19, UNSIGNED, FORMAT },
-                                  { "linestride", 18, 9, UNSIGNED, PLAIN },
-                                  { "height", 8, 0, UNSIGNED, PLAIN } } },
-    { "BITMAP_SIZE", 0x08, 5, { { "filter", 20, 20, UNSIGNED, PLAIN },
-                                { "wrapx", 19, 19, UNSIGNED, PLAIN },
-                                { "wrapy", 18, 18, UNSIGNED, PLAIN },
-                                { "width", 17, 9, UNSIGNED, PLAIN },
-                                { "height", 8, 0, UNSIGNED, PLAIN } } },
-    { "ALPHA_FUNC", 0x09, 2, { { "func", 10, 8, UNSIGNED, TEST }, { "ref", 7, 0, UNSIGNED, PLAIN } } },
-    { "STENCIL_FUNC", 0x0A, 3, { { "func", 19, 16, UNSIGNED, TEST },
-                                 { "ref", 15, 8, UNSIGNED, PLAIN },
-                                 { "mask", 7, 0, UNSIGNED, PLAIN } } },
-    { "BLEND_FUNC", 0x0B, 2, { { "src", 5, 3, UNSIGNED, FACTOR }, { "dst", 2, 0, UNSIGNED, FACTOR } } },
-    { "STENCIL_OP", 0x0C, 2, { { "sfail", 5, 3, UNSIGNED, ACTION }, { "spass", 2, 0, UNSIGNED, ACTION } } },
-    { "POINT_SIZE", 0x0D, 1, { { "size", 12, 0, UNSIGNED, PLAIN } } },
-    { "LINE_WIDTH", 0x0E, 1, { { "width", 11, 0, UNSIGNED, PLAIN } } },
-    { "CLEAR_COLOR_A", 0x0F, 1, { { "alpha", 7, 0, UNSIGNED, PLAIN } } },
-    { "COLOR_A", 0x10, 1, { { "alpha", 7, 0, UNSIGNED, PLAIN } } },
-    { "CLEAR_STENCIL", 0x11, 1, { { "s", 7, 0, UNSIGNED, PLAIN } } },
-    { "CLEAR_TAG", 0x12, 1, { { "t", 7, 0, UNSIGNED, PLAIN } } },
-    { "STENCIL_MASK", 0x13, 1, { { "mask", 7, 0, UNSIGNED, PLAIN } } },
-    { "TAG_MASK", 0x14, 1, { { "mask", 0, 0, UNSIGNED, PLAIN } } },
-    { "BITMAP_TRANSFORM_A", 0x15, 1, { { "a", 16, 0, SIGNED, PLAIN } } },
-    { "BITMAP_TRANSFORM_B", 0x16, 1, { { "b", 16, 0, SIGNED, PLAIN } } },
-    { "BITMAP_TRANSFORM_C", 0x17, 1, { { "c", 23, 0, SIGNED, PLAIN } } },
-    { "BITMAP_TRANSFORM_D", 0x18, 1, { { "d", 16, 0, SIGNED, PLAIN } } },
-    { "BITMAP_TRANSFORM_E", 0x19, 1, { { "e", 16, 0, SIGNED, PLAIN } } },
-    { "BITMAP_TRANSFORM_F", 0x1A, 1, { { "f", 23, 0, SIGNED, PLAIN } } },
-    { "SCISSOR_XY", 0x1B, 2, { { "x", 21, 11, UNSIGNED, PLAIN }, { "y", 10, 0, UNSIGNED, PLAIN } } },
-    { "SCISSOR_SIZE", 0x1C, 2, { { "width", 23, 12, UNSIGNED, SCISSOR }, { "height", 11, 0, UNSIGNED, SCISSOR } } },
-    { "CALL", 0x1D, 1, { { "dest", 15, 0, UNSIGNED, PLAIN } } },
-    { "JUMP", 0x1E, 1, { { "dest", 15, 0, UNSIGNED, PLAIN } } },
-    { "BEGIN", 0x1F, 1, { { "prim", 3, 0, UNSIGNED, PRIMITIVE } } },
-    { "COLOR_MASK", 0x20, 4, { { "r", 3, 3, UNSIGNED, PLAIN },
-                               { "g", 2, 2, UNSIGNED, PLAIN },
-                               { "b", 1, 1, UNSIGNED, PLAIN },
-                               { "a", 0, 0, UNSIGNED, PLAIN } } },
-    { "END", 0x21, 0, { { 0 } } },
-    { "SAVE_CONTEXT", 0x22, 0, { { 0 } } },
-    { "RESTORE_CONTEXT", 0x23, 0, { { 0 } } },
-    { "RETURN", 0x24, 0, { { 0 } } },
-    { "MACRO", 0x25, 1, { { "m", 0, 0, UNSIGNED, PLAIN } } },
-    { "CLEAR", 0x26, 3, { { "c", 2, 2, UNSIGNED, PLAIN },
-                          { "s", 1, 1, UNSIGNED, PLAIN },
-                          { "t", 0, 0, UNSIGNED, PLAIN } } },
-    { "VERTEX_FORMAT", 0x27, 1, { { "frac", 2, 0, UNSIGNED, FRAC } } },
-    { "BITMAP_LAYOUT_H", 0x28, 2, { { "linestride", 3, 2, UNSIGNED, PLAIN }, { "height", 1, 0, UNSIGNED, PLAIN } } },
-    { "BITMAP_SIZE_H", 0x29, 2, { { "width", 3, 2, UNSIGNED, PLAIN }, { "height", 1, 0, UNSIGNED, PLAIN } } },
-    { "PALETTE_SOURCE", 0x2A, 1, { { "addr", 21, 0, UNSIGNED, PLAIN } } },
-    { "VERTEX_TRANSLATE_X", 0x2B, 1, { { "x", 16, 0, SIGNED, PLAIN } } },
-    { "VERTEX_TRANSLATE_Y", 0x2C, 1, { { "y", 16, 0, SIGNED, PLAIN } } },
-    { "NOP", 0x2D, 0, { { 0 } } },
-    { "VERTEX2F", 0x40, 2, { { "x", 29, 15, SIGNED, PLAIN }, { "y", 14, 0, SIGNED, PLAIN } } },
-    { "VERTEX2II", 0x80, 4, { { "x", 29, 21, UNSIGNED, PLAIN },
-                              { "y", 20, 12, UNSIGNED, PLAIN },
-                              { "handle", 11, 7, UNSIGNED, PLAIN },
-                              { "cell", 6, 0, UNSIGNED, PLAIN } } },
+    { "DISPLAY", JV_DISPLAY, 0, { { 0 } } },
+    { "BITMAP_SOURCE", JV_BITMAP_SOURCE, 1, { { "addr", 21, 0, UNSIGNED, PLAIN } } },
+    { "CLEAR_COLOR_RGB", JV_CLEAR_COLOR_RGB, 3, { { "red", 23, 16, UNSIGNED, PLAIN },
+                                                  { "green", 15, 8, UNSIGNED, PLAIN },
+                                                  { "blue", 7, 0, UNSIGNED, PLAIN } } },
+    { "TAG", JV_TAG, 1, { { "s", 7, 0, UNSIGNED, PLAIN } } },
+    { "COLOR_RGB", JV_COLOR_RGB, 3, { { "red", 23, 16, UNSIGNED, PLAIN },
+                                      { "green", 15, 8, UNSIGNED, PLAIN },
+                                      { "blue", 7, 0, UNSIGNED, PLAIN } } },
+    { "BITMAP_HANDLE", JV_BITMAP_HANDLE, 1, { { "handle", 4, 0, UNSIGNED, PLAIN } } },
+    { "CELL", JV_CELL, 1, { { "cell", 6, 0, UNSIGNED, PLAIN } } },
+    { "BITMAP_LAYOUT", JV_BITMAP_LAYOUT, 3, { { "format", 23, 19, UNSIGNED, FORMAT },
+                                              { "linestride", 18, 9, UNSIGNED, PLAIN },
+                                              { "height", 8, 0, UNSIGNED, PLAIN } } },
+    { "BITMAP_SIZE", JV_BITMAP_SIZE, 5, { { "filter", 20, 20, UNSIGNED, PLAIN },
+                                          { "wrapx", 19, 19, UNSIGNED, PLAIN },
+                                          { "wrapy", 18, 18, UNSIGNED, PLAIN },
+                                          { "width", 17, 9, UNSIGNED, PLAIN },
+                                          { "height", 8, 0, UNSIGNED, PLAIN } } },
+    { "ALPHA_FUNC", JV_ALPHA_FUNC, 2, { { "func", 10, 8, UNSIGNED, TEST }, { "ref", 7, 0, UNSIGNED, PLAIN } } },
+    { "STENCIL_FUNC", JV_STENCIL_FUNC, 3, { { "func", 19, 16, UNSIGNED, TEST },
+                                            { "ref", 15, 8, UNSIGNED, PLAIN },
+                                            { "mask", 7, 0, UNSIGNED, PLAIN } } },
+    { "BLEND_FUNC", JV_BLEND_FUNC, 2, { { "src", 5, 3, UNSIGNED, FACTOR }, { "dst", 2, 0, UNSIGNED, FACTOR } } },
+    { "STENCIL_OP", JV_STENCIL_OP, 2, { { "sfail", 5, 3, UNSIGNED, ACTION }, { "spass", 2, 0, UNSIGNED, ACTION } } },
+    { "POINT_SIZE", JV_POINT_SIZE, 1, { { "size", 12, 0, UNSIGNED, PLAIN } } },
+    { "LINE_WIDTH", JV_LINE_WIDTH, 1, { { "width", 11, 0, UNSIGNED, PLAIN } } },
+    { "CLEAR_COLOR_A", JV_CLEAR_COLOR_A, 1, { { "alpha", 7, 0, UNSIGNED, PLAIN } } },
+    { "COLOR_A", JV_COLOR_A, 1, { { "alpha", 7, 0, UNSIGNED, PLAIN } } },
+    { "CLEAR_STENCIL", JV_CLEAR_STENCIL, 1, { { "s", 7, 0, UNSIGNED, PLAIN } } },
+    { "CLEAR_TAG", JV_CLEAR_TAG, 1, { { "t", 7, 0, UNSIGNED, PLAIN } } },
+    { "STENCIL_MASK", JV_STENCIL_MASK, 1, { { "mask", 7, 0, UNSIGNED, PLAIN } } },
+    { "TAG_MASK", JV_TAG_MASK, 1, { { "mask", 0, 0, UNSIGNED, PLAIN } } },
+    { "BITMAP_TRANSFORM_A", JV_BITMAP_TRANSFORM_A, 1, { { "a", 16, 0, SIGNED, PLAIN } } },
+    { "BITMAP_TRANSFORM_B", JV_BITMAP_TRANSFORM_B, 1, { { "b", 16, 0, SIGNED, PLAIN } } },
+    { "BITMAP_TRANSFORM_C", JV_BITMAP_TRANSFORM_C, 1, { { "c", 23, 0, SIGNED, PLAIN } } },
+    { "BITMAP_TRANSFORM_D", JV_BITMAP_TRANSFORM_D, 1, { { "d", 16, 0, SIGNED, PLAIN } } },
+    { "BITMAP_TRANSFORM_E", JV_BITMAP_TRANSFORM_E, 1, { { "e", 16, 0, SIGNED, PLAIN } } },
+    { "BITMAP_TRANSFORM_F", JV_BITMAP_TRANSFORM_F, 1, { { "f", 23, 0, SIGNED, PLAIN } } },
+    { "SCISSOR_XY", JV_SCISSOR_XY, 2, { { "x", 21, 11, UNSIGNED, PLAIN }, { "y", 10, 0, UNSIGNED, PLAIN } } },
+    { "SCISSOR_SIZE", JV_SCISSOR_SIZE, 2, { { "width", 23, 12, UNSIGNED, SCISSOR },
+                                            { "height", 11, 0, UNSIGNED, SCISSOR } } },
+    { "CALL", JV_CALL, 1, { { "dest", 15, 0, UNSIGNED, PLAIN } } },
+    { "JUMP", JV_JUMP, 1, { { "dest", 15, 0, UNSIGNED, PLAIN } } },
+    { "BEGIN", JV_BEGIN, 1, { { "prim", 3, 0, UNSIGNED, PRIMITIVE } } },
+    { "COLOR_MASK", JV_COLOR_MASK, 4, { { "r", 3, 3, UNSIGNED, PLAIN },
+                                        { "g", 2, 2, UNSIGNED, PLAIN },
+                                        { "b", 1, 1, UNSIGNED, PLAIN },
+                                        { "a", 0, 0, UNSIGNED, PLAIN } } },
+    { "END", JV_END, 0, { { 0 } } },
+    { "SAVE_CONTEXT", JV_SAVE_CONTEXT, 0, { { 0 } } },
+    { "RESTORE_CONTEXT", JV_RESTORE_CONTEXT, 0, { { 0 } } },
+    { "RETURN", JV_RETURN, 0, { { 0 } } },
+    { "MACRO", JV_MACRO, 1, { { "m", 0, 0, UNSIGNED, PLAIN } } },
+    { "CLEAR", JV_CLEAR, 3, { { "c", 2, 2, UNSIGNED, PLAIN },
+                              { "s", 1, 1, UNSIGNED, PLAIN },
+                              { "t", 0, 0, UNSIGNED, PLAIN } } },
+    { "VERTEX_FORMAT", JV_VERTEX_FORMAT, 1, { { "frac", 2, 0, UNSIGNED, FRAC } } },
+    { "BITMAP_LAYOUT_H", JV_BITMAP_LAYOUT_H, 2, { { "linestride", 3, 2, UNSIGNED, PLAIN },
+                                                  { "height", 1, 0, UNSIGNED, PLAIN } } },
+    { "BITMAP_SIZE_H", JV_BITMAP_SIZE_H, 2, { { "width", 3, 2, UNSIGNED, PLAIN },
+                                              { "height", 1, 0, UNSIGNED, PLAIN } } },
+    { "PALETTE_SOURCE", JV_PALETTE_SOURCE, 1, { { "addr", 21, 0, UNSIGNED, PLAIN } } },
+    { "VERTEX_TRANSLATE_X", JV_VERTEX_TRANSLATE_X, 1, { { "x", 16, 0, SIGNED, PLAIN } } },
+    { "VERTEX_TRANSLATE_Y", JV_VERTEX_TRANSLATE_Y, 1, { { "y", 16, 0, SIGNED, PLAIN } } },
+    { "NOP", JV_NOP, 0, { { 0 } } },
+    { "VERTEX2F", JV_VERTEX2F, 2, { { "x", 29, 15, SIGNED, PLAIN }, { "y", 14, 0, SIGNED, PLAIN } } },
+    { "VERTEX2II", JV_VERTEX2II, 4, { { "x", 29, 21, UNSIGNED, PLAIN },
+                                      { "y", 20, 12, UNSIGNED, PLAIN },
+                                      { "handle", 11, 7, UNSIGNED, PLAIN },
+                                      { "cell", 6, 0, UNSIGNED, PLAIN } } },
 };
 
 const entry *find_entry(uint32_t command)
@@ -122,25 +125,26 @@ bool is_held(const field *f, uint32_t value)
 
 uint32_t least_meant(const field *f)
 {
-    return f->kind == PRIMITIVE ? 1 : least_held(f);
+    return f->kind == PRIMITIVE ? JV_PRIMITIVE_BITMAPS : least_held(f);
 }
 
 uint32_t largest_meant(const field *f)
 {
     switch (f->kind) {
     case TEST:
-        return 7;
+        return JV_TEST_ALWAYS;
     case ACTION:
+        return JV_ACTION_INVERT;
     case FACTOR:
-        return 5;
+        return JV_FACTOR_ONE_MINUS_DST_ALPHA;
     case PRIMITIVE:
-        return 9;
+        return JV_PRIMITIVE_RECTS;
     case FORMAT:
-        return 17;
+        return JV_FORMAT_L2;
     case FRAC:
-        return 4;
+        return JV_MAX_FRAC;
     case SCISSOR:
-        return 2048;
+        return JV_MAX_SCISSOR;
     case PLAIN:
         break;
     }

@@ -43,7 +43,7 @@ bool is_met(const char *what, unsigned long times, unsigned long least);
 bool is_number_met(const char *by, uint32_t number, unsigned long times, unsigned long least);
 
 /* How often each of jv_check's numbers came, and each kind of action. */
-enum { NUMBERS = 21, ACTION_KINDS = 5 };
+enum { NUMBERS = JV_FAR_END + 1, ACTION_KINDS = 5 };
 bool is_number(uint32_t number);
 void print_numbers_met(const char *what, const unsigned long times[NUMBERS]);
 void print_actions_met(const unsigned long times[ACTION_KINDS]);

@@ -16,7 +16,7 @@
 #include "made_lists.h"
 #include "painter.h"
 
-enum { LEAST_DRAWN = 14000, LEAST_COMMON = 2000, LEAST_MET = 20, MOST_HEIGHT = 600 };
+enum { LEAST_DRAWN = 14000, LEAST_COMMON = 2000, LEAST_MET = 20 };
 
 /* LIST_CUT is the old list's. */
 enum { NEW_LIST_CUT = LIST_NUMBERS, PICTURE_BESIDE, TAGS_BESIDE, MARKS_BESIDE, REPAINT_NUMBERS };
@@ -76,7 +76,7 @@ static uint32_t draw_limit(const run_request *o)
 {
     uint32_t fetched = run_list(o).count;
     if (draw_once_in(200))
-        return draw_once_in(2) ? 0 : 65537;
+        return draw_once_in(2) ? 0 : JV_MAX_LIMIT + 1;
     return draw_once_in(30) && fetched > 0 ? fetched : o->limit;
 }
 
@@ -85,7 +85,7 @@ static void share_numbers(run_request *o, run_request *n)
 {
     n->ram_g_length = o->ram_g_length > n->ram_g_length ? o->ram_g_length : n->ram_g_length;
     if (draw_once_in(400))
-        n->ram_g_length = MOST_RAM_G_BYTES + 1;
+        n->ram_g_length = JV_MAX_RAM_G_BYTES + 1;
     o->ram_g_length = n->ram_g_length;
     o->limit = draw_limit(o);
     n->limit = o->limit;
@@ -231,7 +231,7 @@ static void compare(bool *agree, const asked *a, const repainted *ours, const re
 /* Which rows something reaches. */
 typedef struct {
     const run_request *run;
-    bool is_reached[MOST_HEIGHT];
+    bool is_reached[JV_MAX_HEIGHT];
 } reached_rows;
 
 static void count_action(void *taker, const run_action *action)

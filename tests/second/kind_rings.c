@@ -24,11 +24,11 @@ enum { READ_MARK, WRITE_MARK, OFFSET_MARK, FAULT_MARK, RING_CASE_NUMBERS };
 enum { FIRST_CALL = RING_RUNS, MOST_CALLS = MOST_RUNS - FIRST_CALL };
 
 /* Longer than each run may be; a run that is not as long as its case would have it gets zeros. */
-static const size_t longest[RING_RUNS] = { RING_BYTES + 4, MOST_LIST_BYTES + 4, MOST_LIST_BYTES + 4,
-                                           MOST_RAM_G_BYTES + 1 };
+static const size_t longest[RING_RUNS] = { JV_RING_BYTES + 4, JV_RAM_DL_BYTES + 4, JV_RAM_DL_BYTES + 4,
+                                           JV_MAX_RAM_G_BYTES + 1 };
 
 /* What the runs' bytes are taken from. */
-static uint8_t drawn_bytes[STARTS_BELOW + MOST_RAM_G_BYTES + 1];
+static uint8_t drawn_bytes[STARTS_BELOW + JV_MAX_RAM_G_BYTES + 1];
 
 /* What is lent to the library and to the second program, and what a case is made on. It is lent again and again. */
 static lent_ring ours, theirs, maker;
@@ -131,9 +131,9 @@ static void put_marks(test_case *c, ring_marks m)
 static void put_runs(test_case *c, const made_ring *made)
 {
     static const char *const names[RING_RUNS] = { "ring", "RAM_DL", "shown", "RAM_G" };
-    static uint8_t ring[RING_BYTES + 4], ram_dl[MOST_LIST_BYTES + 4], shown[MOST_LIST_BYTES + 4];
-    static uint8_t ram_g[MOST_RAM_G_BYTES + 1];
-    static const uint32_t rest[RING_RUNS] = { RING_BYTES, MOST_LIST_BYTES, MOST_LIST_BYTES, 0 };
+    static uint8_t ring[JV_RING_BYTES + 4], ram_dl[JV_RAM_DL_BYTES + 4], shown[JV_RAM_DL_BYTES + 4];
+    static uint8_t ram_g[JV_MAX_RAM_G_BYTES + 1];
+    static const uint32_t rest[RING_RUNS] = { JV_RING_BYTES, JV_RAM_DL_BYTES, JV_RAM_DL_BYTES, 0 };
     uint8_t *const bytes[RING_RUNS] = { ring, ram_dl, shown, ram_g };
     for (ring_run run = 0; run < RING_RUNS; run++) {
         size_t length = made->length[run];
@@ -229,7 +229,7 @@ static void count_taken(const uint8_t *ring, uint32_t from, uint32_t to)
     for (uint32_t at = from; at != to;) {
         ring_command command = ring_command_of(word_at(ring + at));
         met.taken[command]++;
-        at = (at + 4 * words_of_ring_command(command)) % RING_BYTES;
+        at = (at + 4 * words_of_ring_command(command)) % JV_RING_BYTES;
     }
 }
 
@@ -241,7 +241,7 @@ static void count_call(const case_run *call, ring_marks handed, jv_ring came)
         return;
     const uint8_t *ring = theirs.bytes[THE_RING];
     count_taken(ring, handed.read, came.read);
-    met.full += (came.write - handed.read) % RING_BYTES == MOST_WAITING_BYTES ? 1 : 0;
+    met.full += (came.write - handed.read) % JV_RING_BYTES == JV_MAX_WAITING ? 1 : 0;
     met.idle_after_many += came.number == JV_RING_IDLE && came.count >= 20 ? 1 : 0;
     if (came.number != JV_RING_IDLE && came.number != JV_RING_SWAPPED)
         met.stopped[came.number][ring_command_of(word_at(ring + came.read))]++;

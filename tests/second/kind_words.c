@@ -10,7 +10,7 @@
 enum { READ_BITS, WRITTEN_COMMAND, WRITTEN_FIELDS, WORD_NUMBERS = WRITTEN_FIELDS + FIELDS };
 
 /* How often each number came, and how many words of each command were done and refused. */
-enum { WORD_ANSWERS = 13 };
+enum { WORD_ANSWERS = JV_NO_MEANING + 1 };
 typedef struct {
     unsigned long number[WORD_ANSWERS], done[COMMANDS], refused[COMMANDS];
 } word_tally;

@@ -10,7 +10,7 @@
 /* Longer ones would take too long to copy for each case. */
 enum { LONGEST_COPY = 65536 };
 
-static uint8_t ram_g[MOST_RAM_G_BYTES + 1];
+static uint8_t ram_g[JV_MAX_RAM_G_BYTES + 1];
 
 void fill_ram_g(void)
 {

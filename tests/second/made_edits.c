@@ -10,7 +10,7 @@
 
 /* As in made_lists.c, no two operands or arguments of one expression draw. */
 
-enum { MOST_WORDS = MOST_LIST_BYTES / 4 };
+enum { MOST_WORDS = JV_MAX_LIST_BYTES / 4 };
 
 /* A list being edited. */
 typedef struct {

@@ -13,7 +13,7 @@
 
 #define DRAW_ONE_OF(array) ((array)[draw_below(LENGTH(array))])
 
-enum { MOST_WORDS = MOST_LIST_BYTES / 4, MOST_STRETCHES = 6, MOST_CALLS_PUT = 64, MOST_READY = 8, MOST_CELL = 127 };
+enum { MOST_WORDS = JV_MAX_LIST_BYTES / 4, MOST_STRETCHES = 6, MOST_CALLS_PUT = 64, MOST_READY = 8, MOST_CELL = 127 };
 
 /* A run that has not ended by then is most likely endless, and would take its time under a large limit. */
 enum { LONG_RUN = 3000 };
@@ -110,7 +110,7 @@ static uint32_t draw_telling_byte(void)
 /* Seldom NEVER, for nothing is drawn under it. */
 static uint32_t draw_test(void)
 {
-    return draw_once_in(40) ? 0 : draw_from(1, 7);
+    return draw_once_in(40) ? NEVER : draw_from(LESS, ALWAYS);
 }
 
 static uint32_t draw_stencil_test(void)
@@ -123,8 +123,8 @@ static uint32_t draw_stencil_test(void)
 
 static uint32_t draw_blend(void)
 {
-    uint32_t src = draw_below(6), dst = draw_below(6);
-    return draw_once_in(3) ? BLEND_FUNC(2, 4) : BLEND_FUNC(src, dst);
+    uint32_t src = draw_below(ONE_MINUS_DST_ALPHA + 1), dst = draw_below(ONE_MINUS_DST_ALPHA + 1);
+    return draw_once_in(3) ? BLEND_FUNC(SRC_ALPHA, ONE_MINUS_SRC_ALPHA) : BLEND_FUNC(src, dst);
 }
 
 static uint32_t draw_colour_mask(void)
@@ -152,7 +152,7 @@ static uint32_t draw_size(const draft *d, uint32_t most)
 static uint32_t draw_scissor_size(const draft *d)
 {
     uint32_t width = draw_below(d->aim.width + 2), height = draw_below(d->aim.height + 2);
-    return draw_once_in(2) ? SCISSOR_SIZE(2048, 2048) : SCISSOR_SIZE(width, height);
+    return draw_once_in(2) ? SCISSOR_SIZE(JV_MAX_SCISSOR, JV_MAX_SCISSOR) : SCISSOR_SIZE(width, height);
 }
 
 static uint32_t draw_scissor_place(const draft *d)
@@ -200,7 +200,7 @@ static uint32_t draw_aimed_word_of(const draft *d, uint32_t command)
     case JV_SCISSOR_SIZE:
         return draw_scissor_size(d);
     case JV_VERTEX_FORMAT:
-        return VERTEX_FORMAT(draw_once_in(3) ? draw_below(5) : 4);
+        return VERTEX_FORMAT(draw_once_in(3) ? draw_below(JV_MAX_FRAC + 1) : 4);
     case JV_VERTEX_TRANSLATE_X:
         return draw_translation(command, d->aim.width);
     case JV_VERTEX_TRANSLATE_Y:
@@ -237,31 +237,34 @@ static uint32_t draw_no_meaning(void)
     uint32_t any = draw();
     switch (draw_below(10)) {
     case 0:
-        return STENCIL_FUNC(draw_from(8, 15), any, any >> 8);
+        return STENCIL_FUNC(draw_from(ALWAYS + 1, 15), any, any >> 8);
     case 1:
-        return BLEND_FUNC(draw_from(6, 7), any);
+        return BLEND_FUNC(draw_from(ONE_MINUS_DST_ALPHA + 1, 7), any);
     case 2:
-        return BLEND_FUNC(any, draw_from(6, 7));
+        return BLEND_FUNC(any, draw_from(ONE_MINUS_DST_ALPHA + 1, 7));
     case 3:
-        return STENCIL_OP(draw_from(6, 7), any);
+        return STENCIL_OP(draw_from(INVERT + 1, 7), any);
     case 4:
-        return STENCIL_OP(any, draw_from(6, 7));
+        return STENCIL_OP(any, draw_from(INVERT + 1, 7));
     case 5:
-        return BEGIN(any % 3 == 0 ? 0 : draw_from(10, 15));
+        return BEGIN(any % 3 == 0 ? 0 : draw_from(RECTS + 1, 15));
     case 6:
         return BITMAP_LAYOUT(DRAW_ONE_OF(formats), any, any >> 10);
     case 7:
-        return VERTEX_FORMAT(draw_from(5, 7));
+        return VERTEX_FORMAT(draw_from(JV_MAX_FRAC + 1, 7));
     case 8:
-        return SCISSOR_SIZE(draw_from(2049, 4095), any);
+        return SCISSOR_SIZE(draw_from(JV_MAX_SCISSOR + 1, 4095), any);
     default:
-        return SCISSOR_SIZE(any, draw_from(2049, 4095));
+        return SCISSOR_SIZE(any, draw_from(JV_MAX_SCISSOR + 1, 4095));
     }
 }
 
 static uint32_t draw_not_drawn(void)
 {
-    static const uint32_t formats[] = { 1, 2, 4, 5, 6, 9, 10, 11, 14, 15, 16, 17 };
+    static const uint32_t formats[] = { JV_FORMAT_L1,           JV_FORMAT_L4,        JV_FORMAT_RGB332,
+                                        JV_FORMAT_ARGB2,        JV_FORMAT_ARGB4,     JV_FORMAT_TEXT8X8,
+                                        JV_FORMAT_TEXTVGA,      JV_FORMAT_BARGRAPH,  JV_FORMAT_PALETTED565,
+                                        JV_FORMAT_PALETTED4444, JV_FORMAT_PALETTED8, JV_FORMAT_L2 };
     uint32_t any = draw();
     switch (draw_below(5)) {
     case 0:
@@ -422,7 +425,7 @@ static void spoil(bitmap_settings *b)
 
 static void set_up_bitmap(draft *d)
 {
-    uint32_t handle = draw_below(32);
+    uint32_t handle = draw_below(JV_HANDLES);
     bitmap_settings b = draw_bitmap_settings();
     ready_handle ready = { handle, 0 };
     if (d->ready_count == MOST_READY || !place_cells(&b, d->ram_g_length, &ready.last_cell))
@@ -492,7 +495,8 @@ static void put_saves(draft *d)
 {
     for (uint32_t left = draw_from(1, 6); left > 0; left--) {
         bool takes_ready = d->ready_count > 0 && !draw_mishap(d, 8);
-        ready_handle r = takes_ready ? d->ready[draw_below(d->ready_count)] : (ready_handle){ draw_below(32), 3 };
+        ready_handle r =
+            takes_ready ? d->ready[draw_below(d->ready_count)] : (ready_handle){ draw_below(JV_HANDLES), 3 };
         put(d, BITMAP_HANDLE(r.handle));
         put(d, CELL(draw_below(r.last_cell + 1)));
         maybe_put_setting(d);
@@ -593,17 +597,18 @@ static end_place draw_end_after(const draft *d, end_place last)
 /* As far away as an end may lie, or nearly; and now and then too far. */
 static int32_t draw_far_place(const draft *d)
 {
-    static const int32_t far[] = { -32768, -32767, 32766, 32767 }, too_far[] = { -32769, 32768, -49152, 49151 };
+    static const int32_t far[] = { JV_MIN_END, JV_MIN_END + 1, JV_MAX_END - 1, JV_MAX_END };
+    static const int32_t too_far[] = { JV_MIN_END - 1, JV_MAX_END + 1, -49152, 49151 };
     if (draw_mishap(d, 6))
         return DRAW_ONE_OF(too_far);
-    return draw_once_in(2) ? DRAW_ONE_OF(far) : (int32_t)draw_below(65536) - 32768;
+    return draw_once_in(2) ? DRAW_ONE_OF(far) : (int32_t)draw_below(JV_MAX_END - JV_MIN_END + 1) + JV_MIN_END;
 }
 
 /* An end at this place in sixteenths, which a vertex alone might not reach: in any format, and with a translation that
    is mostly taken back. */
 static void put_end_at(draft *d, int32_t x, int32_t y)
 {
-    uint32_t frac = draw_below(5);
+    uint32_t frac = draw_below(JV_MAX_FRAC + 1);
     int32_t unit = (int32_t)1 << (4 - frac);
     int32_t said_x = (int32_t)draw_below(2000) - 1000, said_y = (int32_t)draw_below(2000) - 1000;
     put(d, VERTEX_FORMAT(frac));
@@ -629,7 +634,7 @@ static void put_far_end(draft *d)
 static int32_t opposite(int32_t place, int32_t middle)
 {
     int32_t other = 2 * middle - place;
-    return other < -32768 ? -32768 : other > 32767 ? 32767 : other;
+    return other < JV_MIN_END ? JV_MIN_END : other > JV_MAX_END ? JV_MAX_END : other;
 }
 
 /* Two ends on either side of a place in the frame, so that a segment from far to far is seen there. */
@@ -911,9 +916,9 @@ static size_t draw_ram_g_length(void)
     case 2:
         return draw_from(1, 200);
     case 3:
-        return MOST_RAM_G_BYTES;
+        return JV_MAX_RAM_G_BYTES;
     case 4:
-        return draw_below(MOST_RAM_G_BYTES + 1);
+        return draw_below(JV_MAX_RAM_G_BYTES + 1);
     default:
         return draw_from(200, 20000);
     }
@@ -932,7 +937,7 @@ static uint32_t draw_bad_limit(void)
     case 0:
         return 0;
     case 1:
-        return 65537;
+        return JV_MAX_LIMIT + 1;
     default:
         return draw() | 0x80000000;
     }
@@ -944,7 +949,7 @@ static uint32_t draw_limit(const run_request *r)
     run_request long_run = *r;
     long_run.limit = LONG_RUN;
     run_answer ran = run_list(&long_run);
-    bool seems_endless = ran.number == 19;
+    bool seems_endless = ran.number == JV_LIMIT_REACHED;
     switch (draw_below(8)) {
     case 0:
         return ran.count > 0 ? ran.count : 1;
@@ -955,7 +960,7 @@ static uint32_t draw_limit(const run_request *r)
     case 3:
         return draw_from(1, ran.count + 1);
     default:
-        return seems_endless && !draw_once_in(50) ? draw_from(1, LONG_RUN) : 65536;
+        return seems_endless && !draw_once_in(50) ? draw_from(1, LONG_RUN) : JV_MAX_LIMIT;
     }
 }
 
@@ -965,7 +970,7 @@ size_t draw_bad_length(size_t length)
     case 0:
         return 0;
     case 1:
-        return MOST_LIST_BYTES + draw_from(1, 16);
+        return JV_MAX_LIST_BYTES + draw_from(1, 16);
     default:
         return length - draw_from(1, 3);
     }
@@ -979,7 +984,7 @@ static void spoil_request(run_request *r)
     if (draw_once_in(60))
         r->list_length = draw_bad_length(r->list_length);
     if (draw_once_in(60))
-        r->ram_g_length = MOST_RAM_G_BYTES + 1;
+        r->ram_g_length = JV_MAX_RAM_G_BYTES + 1;
 }
 
 static void write_list(made_list *made, list_kind kind, frame_size aim)
@@ -995,8 +1000,8 @@ static void write_list(made_list *made, list_kind kind, frame_size aim)
 void make_list(made_list *made, list_kind kind)
 {
     write_list(made, kind, (frame_size){ 0, 0 });
-    made->request.width = draw_side(800);
-    made->request.height = draw_side(600);
+    made->request.width = draw_side(JV_MAX_WIDTH);
+    made->request.height = draw_side(JV_MAX_HEIGHT);
     made->request.limit = draw_limit(&made->request);
     spoil_request(&made->request);
 }

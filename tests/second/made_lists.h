@@ -13,7 +13,7 @@
 typedef enum { WHOLE, WITH_A_FAULT, SPOILT, NOISE, LIST_KINDS } list_kind;
 
 /* Longer than any list may be, so that a list can be too long. */
-enum { MOST_MADE_BYTES = MOST_LIST_BYTES + 16 };
+enum { MOST_MADE_BYTES = JV_MAX_LIST_BYTES + 16 };
 
 typedef struct {
     uint8_t bytes[MOST_MADE_BYTES];

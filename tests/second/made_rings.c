@@ -11,7 +11,7 @@
 
 #define DRAW_ONE_OF(array) ((array)[draw_below(LENGTH(array))])
 
-enum { RING_WORDS = RING_BYTES / 4, LIST_BYTES = MOST_LIST_BYTES };
+enum { RING_WORDS = JV_RING_BYTES / 4, LAST_PLACE = JV_RING_BYTES - 4 };
 
 /* ---- The ring ---- */
 
@@ -19,9 +19,9 @@ enum { RING_WORDS = RING_BYTES / 4, LIST_BYTES = MOST_LIST_BYTES };
 static size_t draw_ram_g_length(void)
 {
     if (draw_once_in(4000))
-        return MOST_RAM_G_BYTES + draw_below(2);
+        return JV_MAX_RAM_G_BYTES + draw_below(2);
     if (draw_once_in(200))
-        return draw_below(3 * LIST_BYTES);
+        return draw_below(3 * JV_RAM_DL_BYTES);
     return draw_once_in(12) ? 0 : draw_below(400);
 }
 
@@ -35,7 +35,7 @@ static uint32_t draw_offset(void)
 {
     if (draw_once_in(2))
         return 0;
-    return draw_once_in(2) ? LIST_BYTES - 4 * draw_below(24) : 4 * draw_below(LIST_BYTES / 4 + 1);
+    return draw_once_in(2) ? JV_RAM_DL_BYTES - 4 * draw_below(24) : 4 * draw_below(JV_RAM_DL_BYTES / 4 + 1);
 }
 
 static uint32_t draw_wild_mark(uint32_t most)
@@ -64,9 +64,9 @@ static uint32_t draw_wild_fault(void)
 static ring_marks draw_wild_marks(void)
 {
     ring_marks m;
-    m.read = draw_wild_mark(4092);
-    m.write = draw_wild_mark(4092);
-    m.offset = draw_wild_mark(8192);
+    m.read = draw_wild_mark(LAST_PLACE);
+    m.write = draw_wild_mark(LAST_PLACE);
+    m.offset = draw_wild_mark(JV_RAM_DL_BYTES);
     m.fault = draw_once_in(8) ? draw_wild_fault() : 0;
     return m;
 }
@@ -79,7 +79,7 @@ static size_t draw_length_beside(size_t length)
 
 static void draw_lengths(made_ring *made)
 {
-    const size_t right[RING_RUNS] = { RING_BYTES, LIST_BYTES, LIST_BYTES, draw_ram_g_length() };
+    const size_t right[RING_RUNS] = { JV_RING_BYTES, JV_RAM_DL_BYTES, JV_RAM_DL_BYTES, draw_ram_g_length() };
     memcpy(made->length, right, sizeof right);
     if (!draw_once_in(100))
         return;
@@ -231,7 +231,7 @@ static void put_copy(draft *d)
 /* Now and then all that RAM_DL has room for, or a word more. */
 static void put_append(draft *d)
 {
-    uint32_t room = d->offset < LIST_BYTES ? LIST_BYTES - d->offset : 0;
+    uint32_t room = d->offset < JV_RAM_DL_BYTES ? JV_RAM_DL_BYTES - d->offset : 0;
     uint32_t count = draw_count(smaller(d->ram_g_length, draw_once_in(8) ? room + 4 : room)) / 4 * 4;
     if (draw_once_in(6))
         count = smaller(room, d->ram_g_length / 4 * 4);
@@ -309,7 +309,7 @@ static void put_command(draft *d)
 
 static uint32_t waiting_words(ring_marks m)
 {
-    return (m.write - m.read) % RING_BYTES / 4;
+    return (m.write - m.read) % JV_RING_BYTES / 4;
 }
 
 /* Begins with what was cut off before. */
@@ -380,13 +380,13 @@ static void spoil_mark(ring_marks *m)
 {
     switch (draw_below(4)) {
     case 0:
-        m->read = draw_wild_mark(4092);
+        m->read = draw_wild_mark(LAST_PLACE);
         break;
     case 1:
-        m->write = draw_wild_mark(4092);
+        m->write = draw_wild_mark(LAST_PLACE);
         break;
     case 2:
-        m->offset = draw_wild_mark(8192);
+        m->offset = draw_wild_mark(JV_RAM_DL_BYTES);
         break;
     default:
         m->fault = draw_wild_fault();

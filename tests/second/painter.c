@@ -2,12 +2,9 @@
 
 #include <string.h>
 
-enum { MOST_PIXELS = 800 * 600, BAD_FRAME = 1 };
+#include "jokulvisp.h"
 
-enum { NEVER, LESS, LEQUAL, GREATER, GEQUAL, EQUAL, NOTEQUAL, ALWAYS };
-enum { STENCIL_ZERO, STENCIL_KEEP, STENCIL_REPLACE, STENCIL_INCR, STENCIL_DECR, STENCIL_INVERT };
-enum { ZERO, ONE, SRC_ALPHA, DST_ALPHA, ONE_MINUS_SRC_ALPHA, ONE_MINUS_DST_ALPHA };
-enum { ARGB1555 = 0, L8 = 3, RGB565 = 7 };
+enum { MOST_PIXELS = JV_MAX_WIDTH * JV_MAX_HEIGHT };
 
 /* The low bits of CLEAR and of COLOR_MASK. */
 enum { CLEARS_TAG = 1, CLEARS_STENCIL = 2, CLEARS_COLOUR = 4 };
@@ -162,13 +159,13 @@ static rgba widened_rgb565(uint32_t bits)
 /* 'A drawn pixel past stride or layout height reads as (0, 0, 0, 0).' */
 static rgba texel(const uint8_t *ram_g, const bitmap_shape *b, uint32_t column, uint32_t line)
 {
-    uint32_t byte = b->format == L8 ? column : 2 * column;
+    uint32_t byte = b->format == JV_FORMAT_L8 ? column : 2 * column;
     if (byte >= b->stride || line >= b->layout_height)
         return (rgba){ 0, 0, 0, 0 };
     const uint8_t *first = ram_g + b->cell_start + line * b->stride + byte;
-    if (b->format == L8)
+    if (b->format == JV_FORMAT_L8)
         return (rgba){ 255, 255, 255, *first };
-    return b->format == RGB565 ? widened_rgb565(two_bytes_at(first)) : widened_argb1555(two_bytes_at(first));
+    return b->format == JV_FORMAT_RGB565 ? widened_rgb565(two_bytes_at(first)) : widened_argb1555(two_bytes_at(first));
 }
 
 /* ---- One pixel ---- */
@@ -188,19 +185,19 @@ static rgba colour_product(rgba a, rgba b)
 static bool passes(uint8_t func, uint32_t left, uint32_t right)
 {
     switch (func) {
-    case NEVER:
+    case JV_TEST_NEVER:
         return false;
-    case LESS:
+    case JV_TEST_LESS:
         return left < right;
-    case LEQUAL:
+    case JV_TEST_LEQUAL:
         return left <= right;
-    case GREATER:
+    case JV_TEST_GREATER:
         return left > right;
-    case GEQUAL:
+    case JV_TEST_GEQUAL:
         return left >= right;
-    case EQUAL:
+    case JV_TEST_EQUAL:
         return left == right;
-    case NOTEQUAL:
+    case JV_TEST_NOTEQUAL:
         return left != right;
     default:
         return true;
@@ -211,15 +208,15 @@ static bool passes(uint8_t func, uint32_t left, uint32_t right)
 static uint8_t stencil_after(uint8_t action, uint8_t stored, uint8_t ref)
 {
     switch (action) {
-    case STENCIL_ZERO:
+    case JV_ACTION_ZERO:
         return 0;
-    case STENCIL_REPLACE:
+    case JV_ACTION_REPLACE:
         return ref;
-    case STENCIL_INCR:
+    case JV_ACTION_INCR:
         return stored == 255 ? 255 : stored + 1;
-    case STENCIL_DECR:
+    case JV_ACTION_DECR:
         return stored == 0 ? 0 : stored - 1;
-    case STENCIL_INVERT:
+    case JV_ACTION_INVERT:
         return (uint8_t)~stored;
     default:
         return stored;
@@ -235,15 +232,15 @@ static void write_stencil(uint8_t *stored, uint8_t value, uint8_t mask)
 static uint32_t factor(uint8_t factor, uint8_t src_alpha, uint8_t dst_alpha)
 {
     switch (factor) {
-    case ONE:
+    case JV_FACTOR_ONE:
         return 255;
-    case SRC_ALPHA:
+    case JV_FACTOR_SRC_ALPHA:
         return src_alpha;
-    case DST_ALPHA:
+    case JV_FACTOR_DST_ALPHA:
         return dst_alpha;
-    case ONE_MINUS_SRC_ALPHA:
+    case JV_FACTOR_ONE_MINUS_SRC_ALPHA:
         return 255u - src_alpha;
-    case ONE_MINUS_DST_ALPHA:
+    case JV_FACTOR_ONE_MINUS_DST_ALPHA:
         return 255u - dst_alpha;
     default:
         return 0;
@@ -419,12 +416,12 @@ static run_answer paint_rows(const paint_request *r, uint32_t first, uint32_t co
 static run_answer paint_if_drawable(const paint_request *r, uint32_t first, uint32_t count)
 {
     run_answer ran = run_list(&r->run);
-    if (ran.number == BAD_FRAME)
+    if (ran.number == JV_BAD_FRAME)
         return ran;
     size_t pixels = (size_t)r->run.width * count;
     bool has_rows = first < r->run.height && count <= r->run.height - first;
     if (!has_rows || r->picture_length != 3 * pixels || r->tags_length != pixels)
-        return (run_answer){ BAD_FRAME, 0, 0 };
+        return (run_answer){ JV_BAD_FRAME, 0, 0 };
     return ran.number == 0 ? paint_rows(r, first, count) : ran;
 }
 

@@ -1,13 +1,12 @@
 #include "repainter.h"
 
-enum { DONE = 0, BAD_FRAME = 1, BAD_LIST = 2, BAD_LIMIT = 4 };
+#include "jokulvisp.h"
+
 enum { NO_LIST = 0, OLD_LIST = 1, NEW_LIST = 2 };
 
 /* No run fetches more words than the largest limit, and no word makes two actions. */
-enum { MOST_ACTIONS = 65536 };
-
 typedef struct {
-    run_action action[MOST_ACTIONS];
+    run_action action[JV_MAX_LIMIT];
     size_t count;
 } kept_actions;
 
@@ -108,15 +107,15 @@ static repaint_answer told_of(uint32_t list, run_answer ran)
 /* 1 to 4 in their order; the runs' answers are alike but for 2, and have place and count 0. */
 static repaint_answer refusal(const repaint_request *r, run_answer old, run_answer new)
 {
-    if (old.number == BAD_FRAME || !is_lent_for_frame(r))
-        return (repaint_answer){ BAD_FRAME, NO_LIST, 0, 0 };
-    if (old.number == BAD_LIST)
+    if (old.number == JV_BAD_FRAME || !is_lent_for_frame(r))
+        return (repaint_answer){ JV_BAD_FRAME, NO_LIST, 0, 0 };
+    if (old.number == JV_BAD_LIST)
         return told_of(OLD_LIST, old);
-    if (new.number == BAD_LIST)
+    if (new.number == JV_BAD_LIST)
         return told_of(NEW_LIST, new);
-    if (old.number <= BAD_LIMIT && old.number != DONE)
+    if (old.number <= JV_BAD_LIMIT && old.number != JV_DONE)
         return told_of(NO_LIST, old);
-    return old.number != DONE ? told_of(OLD_LIST, old) : told_of(NEW_LIST, new);
+    return old.number != JV_DONE ? told_of(OLD_LIST, old) : told_of(NEW_LIST, new);
 }
 
 repaint_answer repaint_frame(const repaint_request *request)
@@ -124,10 +123,10 @@ repaint_answer repaint_frame(const repaint_request *request)
     static kept_actions old, new;
     run_request old_run = old_run_of(request);
     run_answer old_ran = run_and_keep(&old, &old_run), new_ran = run_and_keep(&new, &request->paint.run);
-    bool draw = old_ran.number == DONE && new_ran.number == DONE;
+    bool draw = old_ran.number == JV_DONE && new_ran.number == JV_DONE;
     if (!draw || !is_lent_for_frame(request))
         return refusal(request, old_ran, new_ran);
     uint32_t marked = mark_rows(request, &old, &new);
     repaint_marked_rows(request);
-    return (repaint_answer){ DONE, NO_LIST, 0, marked };
+    return (repaint_answer){ JV_DONE, NO_LIST, 0, marked };
 }

@@ -3,21 +3,9 @@
 #include <stdbool.h>
 #include <string.h>
 
-enum { RING_BYTES = 4096, LIST_BYTES = 8192, MOST_RAM_G_BYTES = 1048576, REPORTED_FAULT = 0xFFF };
-enum { RING_WORDS = RING_BYTES / 4, MOST_PARAMETERS = 3 };
+#include "jokulvisp.h"
 
-enum {
-    IDLE = 0,
-    WAITING = 30,
-    SWAPPED = 31,
-    UNKNOWN = 32,
-    BAD_MARK = 33,
-    LIST_FULL = 34,
-    BAD_RANGE = 35,
-    IN_FAULT = 36,
-    BAD_LENGTH = 37,
-    NO_ROOM = 38
-};
+enum { RING_WORDS = JV_RING_BYTES / 4, MOST_PARAMETERS = 3, REPORTED_FAULT = 0xFFF };
 
 /* ---- Answers ---- */
 
@@ -33,18 +21,18 @@ static ring_answer refusal(uint32_t number, ring_marks marks)
 
 static bool is_ring_place(uint32_t mark)
 {
-    return mark % 4 == 0 && mark < RING_BYTES;
+    return mark % 4 == 0 && mark < JV_RING_BYTES;
 }
 
 static bool are_good(ring_marks m)
 {
-    return is_ring_place(m.read) && is_ring_place(m.write) && m.offset % 4 == 0 && m.offset <= LIST_BYTES;
+    return is_ring_place(m.read) && is_ring_place(m.write) && m.offset % 4 == 0 && m.offset <= JV_RAM_DL_BYTES;
 }
 
 /* Of good marks. */
 static uint32_t waiting_bytes(ring_marks m)
 {
-    return m.write >= m.read ? m.write - m.read : RING_BYTES - m.read + m.write;
+    return m.write >= m.read ? m.write - m.read : JV_RING_BYTES - m.read + m.write;
 }
 
 /* ---- The waiting words ---- */
@@ -63,7 +51,7 @@ typedef struct {
 static void take_out(queue *q, const uint8_t *ring, ring_marks m)
 {
     q->count = waiting_bytes(m) / 4;
-    uint32_t up_to_end = (RING_BYTES - m.read) / 4;
+    uint32_t up_to_end = (JV_RING_BYTES - m.read) / 4;
     for (uint32_t n = 0; n < q->count; n++)
         q->word[n] = word_of(n < up_to_end ? ring + m.read + 4 * n : ring + 4 * (n - up_to_end));
 }
@@ -125,12 +113,12 @@ static bool is_in_ram_g(const ring_run_request *r, uint32_t address, uint32_t co
 /* Gives the number that stops the run, 0 where none does. Only a command that is done changes anything. */
 static uint32_t put_into_list(const ring_run_request *r, ring_marks *m, const uint8_t *bytes, uint32_t count)
 {
-    if (count > LIST_BYTES - m->offset)
-        return LIST_FULL;
+    if (count > JV_RAM_DL_BYTES - m->offset)
+        return JV_RING_LIST_FULL;
     if (count > 0)
         memcpy(r->ram_dl + m->offset, bytes, count);
     m->offset += count;
-    return IDLE;
+    return JV_RING_IDLE;
 }
 
 static uint32_t put_word_into_list(const ring_run_request *r, ring_marks *m, uint32_t word)
@@ -142,29 +130,29 @@ static uint32_t put_word_into_list(const ring_run_request *r, ring_marks *m, uin
 static uint32_t fill(const ring_run_request *r, uint32_t address, uint32_t value, uint32_t count)
 {
     if (!is_in_ram_g(r, address, count))
-        return BAD_RANGE;
+        return JV_RING_BAD_RANGE;
     if (count > 0)
         memset(r->ram_g + address, (int)(value & 0xFF), count);
-    return IDLE;
+    return JV_RING_IDLE;
 }
 
 /* 'As if the source were copied first': it is. */
 static uint32_t copy(const ring_run_request *r, uint32_t target, uint32_t source, uint32_t count)
 {
-    static uint8_t copied[MOST_RAM_G_BYTES];
+    static uint8_t copied[JV_MAX_RAM_G_BYTES];
     if (!is_in_ram_g(r, target, count) || !is_in_ram_g(r, source, count))
-        return BAD_RANGE;
+        return JV_RING_BAD_RANGE;
     if (count > 0) {
         memcpy(copied, r->ram_g + source, count);
         memcpy(r->ram_g + target, copied, count);
     }
-    return IDLE;
+    return JV_RING_IDLE;
 }
 
 static uint32_t append(const ring_run_request *r, ring_marks *m, uint32_t address, uint32_t count)
 {
     if (!is_in_ram_g(r, address, count) || count % 4 != 0)
-        return BAD_RANGE;
+        return JV_RING_BAD_RANGE;
     return put_into_list(r, m, count > 0 ? r->ram_g + address : NULL, count);
 }
 
@@ -176,12 +164,12 @@ static uint32_t carry_out(const ring_run_request *r, ring_marks *m, const step *
         return put_word_into_list(r, m, p[0]);
     case DLSTART:
         m->offset = 0;
-        return IDLE;
+        return JV_RING_IDLE;
     case SWAP:
-        memcpy(r->shown, r->ram_dl, LIST_BYTES);
-        return SWAPPED;
+        memcpy(r->shown, r->ram_dl, JV_RAM_DL_BYTES);
+        return JV_RING_SWAPPED;
     case COLDSTART:
-        return IDLE;
+        return JV_RING_IDLE;
     case MEMSET:
         return fill(r, p[0], p[1], p[2]);
     case MEMZERO:
@@ -191,24 +179,24 @@ static uint32_t carry_out(const ring_run_request *r, ring_marks *m, const step *
     case APPEND:
         return append(r, m, p[0], p[1]);
     case TOO_SHORT:
-        return WAITING;
+        return JV_RING_WAITING;
     case NONE:
         break;
     }
-    return UNKNOWN;
+    return JV_RING_UNKNOWN;
 }
 
 /* ---- The calls ---- */
 
 static bool is_fault(uint32_t number)
 {
-    return number == UNKNOWN || number == LIST_FULL || number == BAD_RANGE;
+    return number == JV_RING_UNKNOWN || number == JV_RING_LIST_FULL || number == JV_RING_BAD_RANGE;
 }
 
 /* The place in the ring that lies so many words further on. */
 static uint32_t further(uint32_t place, uint32_t words)
 {
-    return (place + 4 * words) % RING_BYTES;
+    return (place + 4 * words) % JV_RING_BYTES;
 }
 
 static ring_answer run_steps(const ring_run_request *r, const step *steps, uint32_t count)
@@ -216,31 +204,31 @@ static ring_answer run_steps(const ring_run_request *r, const step *steps, uint3
     ring_marks m = r->marks;
     for (uint32_t n = 0; n < count; n++) {
         uint32_t number = carry_out(r, &m, &steps[n]);
-        if (number == IDLE || number == SWAPPED)
+        if (number == JV_RING_IDLE || number == JV_RING_SWAPPED)
             m.read = further(m.read, steps[n].words);
-        if (number == SWAPPED)
+        if (number == JV_RING_SWAPPED)
             return answer(number, 0, n + 1, m);
-        if (number == WAITING)
+        if (number == JV_RING_WAITING)
             return answer(number, 0, n, m);
         if (is_fault(number)) {
             m.fault = 1;
             return answer(number, m.read, n, m);
         }
     }
-    return answer(IDLE, 0, count, m);
+    return answer(JV_RING_IDLE, 0, count, m);
 }
 
 ring_answer run_ring(const ring_run_request *r)
 {
     static queue waiting;
     static step steps[RING_WORDS];
-    if (r->ring_length != RING_BYTES || r->ram_dl_length != LIST_BYTES || r->shown_length != LIST_BYTES ||
-        r->ram_g_length > MOST_RAM_G_BYTES)
-        return refusal(BAD_LENGTH, r->marks);
+    if (r->ring_length != JV_RING_BYTES || r->ram_dl_length != JV_RAM_DL_BYTES || r->shown_length != JV_RAM_DL_BYTES ||
+        r->ram_g_length > JV_MAX_RAM_G_BYTES)
+        return refusal(JV_RING_BAD_RUN, r->marks);
     if (!are_good(r->marks))
-        return refusal(BAD_MARK, r->marks);
+        return refusal(JV_RING_BAD_MARK, r->marks);
     if (r->marks.fault != 0)
-        return refusal(IN_FAULT, r->marks);
+        return refusal(JV_RING_FAULTY, r->marks);
     take_out(&waiting, r->ring, r->marks);
     return run_steps(r, steps, split(steps, &waiting));
 }
@@ -248,25 +236,25 @@ ring_answer run_ring(const ring_run_request *r)
 ring_answer write_ring(const ring_write_request *r)
 {
     ring_marks m = r->marks;
-    if (r->ring_length != RING_BYTES || r->words_length % 4 != 0)
-        return refusal(BAD_LENGTH, m);
+    if (r->ring_length != JV_RING_BYTES || r->words_length % 4 != 0)
+        return refusal(JV_RING_BAD_RUN, m);
     if (!are_good(m))
-        return refusal(BAD_MARK, m);
+        return refusal(JV_RING_BAD_MARK, m);
     if (m.fault != 0)
-        return refusal(IN_FAULT, m);
-    if (r->words_length > RING_BYTES - 4 - waiting_bytes(m))
-        return refusal(NO_ROOM, m);
-    size_t up_to_end = RING_BYTES - m.write;
+        return refusal(JV_RING_FAULTY, m);
+    if (r->words_length > JV_MAX_WAITING - waiting_bytes(m))
+        return refusal(JV_RING_NO_ROOM, m);
+    size_t up_to_end = JV_RING_BYTES - m.write;
     size_t first = r->words_length < up_to_end ? r->words_length : up_to_end;
     if (first > 0)
         memcpy(r->ring + m.write, r->words, first);
     if (first < r->words_length)
         memcpy(r->ring, r->words + first, r->words_length - first);
     m.write = further(m.write, (uint32_t)(r->words_length / 4));
-    return answer(IDLE, 0, 0, m);
+    return answer(JV_RING_IDLE, 0, 0, m);
 }
 
 ring_answer reset_ring(void)
 {
-    return answer(IDLE, 0, 0, (ring_marks){ 0, 0, 0, 0 });
+    return answer(JV_RING_IDLE, 0, 0, (ring_marks){ 0, 0, 0, 0 });
 }

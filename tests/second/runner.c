@@ -2,31 +2,10 @@
 
 #include <string.h>
 
-enum { MOST_KEPT = 4, MOST_CALLS = 4, HANDLES = 32 };
+#include "jokulvisp.h"
 
 /* Primitive 0 has no meaning in BEGIN, so here it stands for none begun. */
-enum { NONE = 0, BITMAPS = 1, POINTS = 2, LINES = 3, LINE_STRIP = 4, RECTS = 9 };
-
-enum { ARGB1555 = 0, L8 = 3, RGB565 = 7 };
-
-enum {
-    DONE = 0,
-    BAD_FRAME = 1,
-    BAD_LIST = 2,
-    BAD_RAM_G = 3,
-    BAD_LIMIT = 4,
-    PAST_END = 10,
-    NO_COMMAND = 11,
-    NO_MEANING = 12,
-    NOT_DRAWN = 13,
-    FIFTH_CALL = 14,
-    NO_CALL = 15,
-    SPLIT_TARGET = 16,
-    NO_PRIMITIVE = 17,
-    NO_BITMAP = 18,
-    LIMIT_REACHED = 19,
-    FAR_END = 20
-};
+enum { NONE = 0 };
 
 /* What SAVE_CONTEXT keeps: every value whose section of the guide calls it part of the context, and that a word which
    is drawn can set. */
@@ -54,11 +33,11 @@ typedef struct {
 
 typedef struct {
     context now;
-    context kept[MOST_KEPT]; /* earliest first */
+    context kept[JV_MAX_CONTEXTS]; /* earliest first */
     unsigned kept_count;
-    uint32_t calls[MOST_CALLS]; /* where each open CALL goes on, outermost first */
+    uint32_t calls[JV_MAX_CALLS]; /* where each open CALL goes on, outermost first */
     unsigned call_count;
-    bitmap_handle handles[HANDLES];
+    bitmap_handle handles[JV_HANDLES];
     uint32_t primitive;
     bool is_open; /* a vertex waits for the one that completes its rectangle or segment */
     position open;
@@ -69,19 +48,19 @@ typedef struct {
 } machine;
 
 /* The guide's initial values, section by section. COLOR_A's is 255 by its section and by document 01's example 11,
-   though the guide's table of the context says 0; SCISSOR_SIZE's is 2048 by 2048. */
+   though the guide's table of the context says 0; SCISSOR_SIZE's is the largest. */
 static const context starting_values = {
-    .scissor = { 0, 0, 2048, 2048 },
+    .scissor = { 0, 0, JV_MAX_SCISSOR, JV_MAX_SCISSOR },
     .masks = { 0xF, 255, 1 },
     .clear_colour = { 0, 0, 0, 0 },
     .colour = { 255, 255, 255, 255 },
     .clear_stencil = 0,
     .clear_tag = 0,
     .tag = 255,
-    .alpha_test = { 7, 0 },
-    .stencil_test = { 7, 0, 255 },
-    .stencil_actions = { 1, 1 },
-    .blend = { 2, 4 },
+    .alpha_test = { JV_TEST_ALWAYS, 0 },
+    .stencil_test = { JV_TEST_ALWAYS, 0, 255 },
+    .stencil_actions = { JV_ACTION_KEEP, JV_ACTION_KEEP },
+    .blend = { JV_FACTOR_SRC_ALPHA, JV_FACTOR_ONE_MINUS_SRC_ALPHA },
     .handle = 0,
     .cell = 0,
     .frac = 4,
@@ -110,12 +89,13 @@ static int32_t signed_bits_of(uint32_t word, unsigned high, unsigned low)
 
 static bool is_drawn_format(uint32_t format)
 {
-    return format == ARGB1555 || format == L8 || format == RGB565;
+    return format == JV_FORMAT_ARGB1555 || format == JV_FORMAT_L8 || format == JV_FORMAT_RGB565;
 }
 
 static bool is_meant_format(uint32_t format)
 {
-    return format <= 7 || (9 <= format && format <= 11) || (14 <= format && format <= 17);
+    return format <= JV_FORMAT_RGB565 || (JV_FORMAT_TEXT8X8 <= format && format <= JV_FORMAT_BARGRAPH) ||
+           (JV_FORMAT_PALETTED565 <= format && format <= JV_FORMAT_L2);
 }
 
 /* ---- Actions ---- */
@@ -295,7 +275,7 @@ static bool is_set_up(const bitmap_handle *h)
 
 static bool is_aligned(const bitmap_handle *h)
 {
-    return h->format == L8 || (h->source % 2 == 0 && h->stride % 2 == 0);
+    return h->format == JV_FORMAT_L8 || (h->source % 2 == 0 && h->stride % 2 == 0);
 }
 
 static uint32_t bitmap_vertex(machine *m, position at, uint32_t handle, uint32_t cell)
@@ -305,10 +285,10 @@ static uint32_t bitmap_vertex(machine *m, position at, uint32_t handle, uint32_t
     uint32_t cell_bytes = (uint32_t)h->stride * h->layout_height;
     uint32_t cell_start = h->source + cell * cell_bytes;
     if (!is_set_up(h) || cell_start + cell_bytes > m->ram_g_length || !is_aligned(h))
-        return NO_BITMAP;
+        return JV_NO_BITMAP;
     if (is_asked_for_actions(m))
         hand_over_bitmap(m, at, h, cell_start);
-    return DONE;
+    return JV_DONE;
 }
 
 /* The first vertex opens a corner, the next draws and leaves none open, so a third opens another. */
@@ -323,7 +303,7 @@ static void rectangle_vertex(machine *m, position at)
 
 static bool is_within_lines(position end)
 {
-    return -32768 <= end.x && end.x <= 32767 && -32768 <= end.y && end.y <= 32767;
+    return JV_MIN_END <= end.x && end.x <= JV_MAX_END && JV_MIN_END <= end.y && end.y <= JV_MAX_END;
 }
 
 /* 'In LINES vertices pair up; in a strip each vertex after the first ends a segment.' Either end may lie too far away,
@@ -333,14 +313,14 @@ static uint32_t line_vertex(machine *m, position at)
     bool completes = m->is_open;
     position from = m->open;
     m->open = at;
-    m->is_open = !completes || m->primitive == LINE_STRIP;
+    m->is_open = !completes || m->primitive == JV_PRIMITIVE_LINE_STRIP;
     if (!completes)
-        return DONE;
+        return JV_DONE;
     if (!is_within_lines(from) || !is_within_lines(at))
-        return FAR_END;
+        return JV_FAR_END;
     if (is_asked_for_actions(m))
         hand_over_segment(m, from, at);
-    return DONE;
+    return JV_DONE;
 }
 
 /* `x` and `y` are in sixteenths, before the translation. */
@@ -348,20 +328,20 @@ static uint32_t vertex(machine *m, int32_t x, int32_t y, uint32_t handle, uint32
 {
     position at = { x + m->now.translation.x, y + m->now.translation.y };
     switch (m->primitive) {
-    case POINTS:
+    case JV_PRIMITIVE_POINTS:
         if (is_asked_for_actions(m))
             hand_over_point(m, at);
-        return DONE;
-    case RECTS:
+        return JV_DONE;
+    case JV_PRIMITIVE_RECTS:
         rectangle_vertex(m, at);
-        return DONE;
-    case LINES:
-    case LINE_STRIP:
+        return JV_DONE;
+    case JV_PRIMITIVE_LINES:
+    case JV_PRIMITIVE_LINE_STRIP:
         return line_vertex(m, at);
-    case BITMAPS:
+    case JV_PRIMITIVE_BITMAPS:
         return bitmap_vertex(m, at, handle, cell);
     default:
-        return NO_PRIMITIVE;
+        return JV_NO_PRIMITIVE;
     }
 }
 
@@ -382,8 +362,8 @@ static uint32_t vertex2ii(machine *m, uint32_t word)
 
 static void save(machine *m)
 {
-    if (m->kept_count == MOST_KEPT) {
-        memmove(&m->kept[0], &m->kept[1], (MOST_KEPT - 1) * sizeof m->kept[0]);
+    if (m->kept_count == JV_MAX_CONTEXTS) {
+        memmove(&m->kept[0], &m->kept[1], (JV_MAX_CONTEXTS - 1) * sizeof m->kept[0]);
         m->kept_count--;
     }
     m->kept[m->kept_count++] = m->now;
@@ -397,18 +377,18 @@ static void restore(machine *m)
 static uint32_t jump(machine *m, uint32_t target)
 {
     if (target % 4 != 0)
-        return SPLIT_TARGET;
+        return JV_SPLIT_TARGET;
     m->next = target;
-    return DONE;
+    return JV_DONE;
 }
 
 static uint32_t call(machine *m, uint32_t target)
 {
-    if (m->call_count == MOST_CALLS)
-        return FIFTH_CALL;
+    if (m->call_count == JV_MAX_CALLS)
+        return JV_FIFTH_CALL;
     m->calls[m->call_count] = m->next;
     uint32_t number = jump(m, target);
-    if (number == DONE)
+    if (number == JV_DONE)
         m->call_count++;
     return number;
 }
@@ -416,9 +396,9 @@ static uint32_t call(machine *m, uint32_t target)
 static uint32_t return_from_call(machine *m)
 {
     if (m->call_count == 0)
-        return NO_CALL;
+        return JV_NO_CALL;
     m->next = m->calls[--m->call_count];
-    return DONE;
+    return JV_DONE;
 }
 
 /* 'BEGIN and END drop an open corner', and 'an open end, which no context holds'. */
@@ -430,12 +410,12 @@ static void start_primitive(machine *m, uint32_t primitive)
 
 static uint32_t begin(machine *m, uint32_t primitive)
 {
-    if (primitive == 0 || primitive > 9)
-        return NO_MEANING;
-    if (LINE_STRIP < primitive && primitive < RECTS)
-        return NOT_DRAWN;
+    if (primitive == NONE || primitive > JV_PRIMITIVE_RECTS)
+        return JV_NO_MEANING;
+    if (JV_PRIMITIVE_LINE_STRIP < primitive && primitive < JV_PRIMITIVE_RECTS)
+        return JV_NOT_DRAWN;
     start_primitive(m, primitive);
-    return DONE;
+    return JV_DONE;
 }
 
 static void end(machine *m)
@@ -454,14 +434,14 @@ static uint32_t set_layout(bitmap_handle *h, uint32_t word)
 {
     uint32_t format = bits_of(word, 23, 19);
     if (!is_meant_format(format))
-        return NO_MEANING;
+        return JV_NO_MEANING;
     if (!is_drawn_format(format))
-        return NOT_DRAWN;
+        return JV_NOT_DRAWN;
     h->format = (uint8_t)format;
     h->stride = (uint16_t)((h->stride & ~0x3FFu) | bits_of(word, 18, 9));
     h->layout_height = (uint16_t)((h->layout_height & ~0x1FFu) | bits_of(word, 8, 0));
     h->has_layout = true;
-    return DONE;
+    return JV_DONE;
 }
 
 static void set_layout_high(bitmap_handle *h, uint32_t word)
@@ -474,11 +454,11 @@ static uint32_t set_size(bitmap_handle *h, uint32_t word)
 {
     bool has_filter_or_wrap = bits_of(word, 20, 18) != 0;
     if (has_filter_or_wrap)
-        return NOT_DRAWN;
+        return JV_NOT_DRAWN;
     h->width = (uint16_t)((h->width & ~0x1FFu) | bits_of(word, 17, 9));
     h->height = (uint16_t)((h->height & ~0x1FFu) | bits_of(word, 8, 0));
     h->has_size = true;
-    return DONE;
+    return JV_DONE;
 }
 
 static void set_size_high(bitmap_handle *h, uint32_t word)
@@ -503,47 +483,47 @@ static void set_rgb(rgba *colour, uint32_t word)
 static uint32_t set_stencil_test(stencil_test *test, uint32_t word)
 {
     uint32_t func = bits_of(word, 19, 16);
-    if (func > 7)
-        return NO_MEANING;
+    if (func > JV_TEST_ALWAYS)
+        return JV_NO_MEANING;
     *test = (stencil_test){ (uint8_t)func, (uint8_t)bits_of(word, 15, 8), (uint8_t)bits_of(word, 7, 0) };
-    return DONE;
+    return JV_DONE;
 }
 
 static uint32_t set_blend(blend_factors *blend, uint32_t word)
 {
     uint32_t src = bits_of(word, 5, 3), dst = bits_of(word, 2, 0);
-    if (src > 5 || dst > 5)
-        return NO_MEANING;
+    if (src > JV_FACTOR_ONE_MINUS_DST_ALPHA || dst > JV_FACTOR_ONE_MINUS_DST_ALPHA)
+        return JV_NO_MEANING;
     *blend = (blend_factors){ (uint8_t)src, (uint8_t)dst };
-    return DONE;
+    return JV_DONE;
 }
 
 static uint32_t set_stencil_actions(stencil_actions *actions, uint32_t word)
 {
     uint32_t sfail = bits_of(word, 5, 3), spass = bits_of(word, 2, 0);
-    if (sfail > 5 || spass > 5)
-        return NO_MEANING;
+    if (sfail > JV_ACTION_INVERT || spass > JV_ACTION_INVERT)
+        return JV_NO_MEANING;
     *actions = (stencil_actions){ (uint8_t)sfail, (uint8_t)spass };
-    return DONE;
+    return JV_DONE;
 }
 
 static uint32_t set_scissor_size(scissor_box *scissor, uint32_t word)
 {
     uint32_t width = bits_of(word, 23, 12), height = bits_of(word, 11, 0);
-    if (width > 2048 || height > 2048)
-        return NO_MEANING;
+    if (width > JV_MAX_SCISSOR || height > JV_MAX_SCISSOR)
+        return JV_NO_MEANING;
     scissor->width = (uint16_t)width;
     scissor->height = (uint16_t)height;
-    return DONE;
+    return JV_DONE;
 }
 
 static uint32_t set_frac(context *now, uint32_t word)
 {
     uint32_t frac = bits_of(word, 2, 0);
-    if (frac > 4)
-        return NO_MEANING;
+    if (frac > JV_MAX_FRAC)
+        return JV_NO_MEANING;
     now->frac = (uint8_t)frac;
-    return DONE;
+    return JV_DONE;
 }
 
 /* ---- The run ---- */
@@ -553,120 +533,120 @@ static uint32_t do_command(machine *m, uint32_t word)
 {
     context *now = &m->now;
     switch (word >> 24) {
-    case 0x01: /* BITMAP_SOURCE */
+    case JV_BITMAP_SOURCE:
         set_source(current_handle(m), word);
-        return DONE;
-    case 0x02: /* CLEAR_COLOR_RGB */
+        return JV_DONE;
+    case JV_CLEAR_COLOR_RGB:
         set_rgb(&now->clear_colour, word);
-        return DONE;
-    case 0x03: /* TAG */
+        return JV_DONE;
+    case JV_TAG:
         now->tag = (uint8_t)bits_of(word, 7, 0);
-        return DONE;
-    case 0x04: /* COLOR_RGB */
+        return JV_DONE;
+    case JV_COLOR_RGB:
         set_rgb(&now->colour, word);
-        return DONE;
-    case 0x05: /* BITMAP_HANDLE */
+        return JV_DONE;
+    case JV_BITMAP_HANDLE:
         now->handle = (uint8_t)bits_of(word, 4, 0);
-        return DONE;
-    case 0x06: /* CELL */
+        return JV_DONE;
+    case JV_CELL:
         now->cell = (uint8_t)bits_of(word, 6, 0);
-        return DONE;
-    case 0x07: /* BITMAP_LAYOUT */
+        return JV_DONE;
+    case JV_BITMAP_LAYOUT:
         return set_layout(current_handle(m), word);
-    case 0x08: /* BITMAP_SIZE */
+    case JV_BITMAP_SIZE:
         return set_size(current_handle(m), word);
-    case 0x09: /* ALPHA_FUNC */
+    case JV_ALPHA_FUNC:
         now->alpha_test = (alpha_test){ (uint8_t)bits_of(word, 10, 8), (uint8_t)bits_of(word, 7, 0) };
-        return DONE;
-    case 0x0A: /* STENCIL_FUNC */
+        return JV_DONE;
+    case JV_STENCIL_FUNC:
         return set_stencil_test(&now->stencil_test, word);
-    case 0x0B: /* BLEND_FUNC */
+    case JV_BLEND_FUNC:
         return set_blend(&now->blend, word);
-    case 0x0C: /* STENCIL_OP */
+    case JV_STENCIL_OP:
         return set_stencil_actions(&now->stencil_actions, word);
-    case 0x0D: /* POINT_SIZE */
+    case JV_POINT_SIZE:
         now->point_size = (uint16_t)bits_of(word, 12, 0);
-        return DONE;
-    case 0x0E: /* LINE_WIDTH */
+        return JV_DONE;
+    case JV_LINE_WIDTH:
         now->line_width = (uint16_t)bits_of(word, 11, 0);
-        return DONE;
-    case 0x0F: /* CLEAR_COLOR_A */
+        return JV_DONE;
+    case JV_CLEAR_COLOR_A:
         now->clear_colour.alpha = (uint8_t)bits_of(word, 7, 0);
-        return DONE;
-    case 0x10: /* COLOR_A */
+        return JV_DONE;
+    case JV_COLOR_A:
         now->colour.alpha = (uint8_t)bits_of(word, 7, 0);
-        return DONE;
-    case 0x11: /* CLEAR_STENCIL */
+        return JV_DONE;
+    case JV_CLEAR_STENCIL:
         now->clear_stencil = (uint8_t)bits_of(word, 7, 0);
-        return DONE;
-    case 0x12: /* CLEAR_TAG */
+        return JV_DONE;
+    case JV_CLEAR_TAG:
         now->clear_tag = (uint8_t)bits_of(word, 7, 0);
-        return DONE;
-    case 0x13: /* STENCIL_MASK */
+        return JV_DONE;
+    case JV_STENCIL_MASK:
         now->masks.stencil = (uint8_t)bits_of(word, 7, 0);
-        return DONE;
-    case 0x14: /* TAG_MASK */
+        return JV_DONE;
+    case JV_TAG_MASK:
         now->masks.tag = (uint8_t)bits_of(word, 0, 0);
-        return DONE;
-    case 0x15: /* BITMAP_TRANSFORM_A to F */
-    case 0x16:
-    case 0x17:
-    case 0x18:
-    case 0x19:
-    case 0x1A:
-        return NOT_DRAWN;
-    case 0x1B: /* SCISSOR_XY */
+        return JV_DONE;
+    case JV_BITMAP_TRANSFORM_A:
+    case JV_BITMAP_TRANSFORM_B:
+    case JV_BITMAP_TRANSFORM_C:
+    case JV_BITMAP_TRANSFORM_D:
+    case JV_BITMAP_TRANSFORM_E:
+    case JV_BITMAP_TRANSFORM_F:
+        return JV_NOT_DRAWN;
+    case JV_SCISSOR_XY:
         now->scissor.x = (uint16_t)bits_of(word, 21, 11);
         now->scissor.y = (uint16_t)bits_of(word, 10, 0);
-        return DONE;
-    case 0x1C: /* SCISSOR_SIZE */
+        return JV_DONE;
+    case JV_SCISSOR_SIZE:
         return set_scissor_size(&now->scissor, word);
-    case 0x1D: /* CALL */
+    case JV_CALL:
         return call(m, bits_of(word, 15, 0));
-    case 0x1E: /* JUMP */
+    case JV_JUMP:
         return jump(m, bits_of(word, 15, 0));
-    case 0x1F: /* BEGIN */
+    case JV_BEGIN:
         return begin(m, bits_of(word, 3, 0));
-    case 0x20: /* COLOR_MASK */
+    case JV_COLOR_MASK:
         now->masks.colour = (uint8_t)bits_of(word, 3, 0);
-        return DONE;
-    case 0x21: /* END */
+        return JV_DONE;
+    case JV_END:
         end(m);
-        return DONE;
-    case 0x22: /* SAVE_CONTEXT */
+        return JV_DONE;
+    case JV_SAVE_CONTEXT:
         save(m);
-        return DONE;
-    case 0x23: /* RESTORE_CONTEXT */
+        return JV_DONE;
+    case JV_RESTORE_CONTEXT:
         restore(m);
-        return DONE;
-    case 0x24: /* RETURN */
+        return JV_DONE;
+    case JV_RETURN:
         return return_from_call(m);
-    case 0x25: /* MACRO */
-        return NOT_DRAWN;
-    case 0x26: /* CLEAR */
+    case JV_MACRO:
+        return JV_NOT_DRAWN;
+    case JV_CLEAR:
         if (is_asked_for_actions(m))
             hand_over_clear(m, bits_of(word, 2, 0));
-        return DONE;
-    case 0x27: /* VERTEX_FORMAT */
+        return JV_DONE;
+    case JV_VERTEX_FORMAT:
         return set_frac(now, word);
-    case 0x28: /* BITMAP_LAYOUT_H */
+    case JV_BITMAP_LAYOUT_H:
         set_layout_high(current_handle(m), word);
-        return DONE;
-    case 0x29: /* BITMAP_SIZE_H */
+        return JV_DONE;
+    case JV_BITMAP_SIZE_H:
         set_size_high(current_handle(m), word);
-        return DONE;
-    case 0x2A: /* PALETTE_SOURCE */
-        return NOT_DRAWN;
-    case 0x2B: /* VERTEX_TRANSLATE_X */
+        return JV_DONE;
+    case JV_PALETTE_SOURCE:
+        return JV_NOT_DRAWN;
+    case JV_VERTEX_TRANSLATE_X:
         now->translation.x = signed_bits_of(word, 16, 0);
-        return DONE;
-    case 0x2C: /* VERTEX_TRANSLATE_Y */
+        return JV_DONE;
+    case JV_VERTEX_TRANSLATE_Y:
         now->translation.y = signed_bits_of(word, 16, 0);
-        return DONE;
-    case 0x2D: /* NOP */
-        return DONE;
+        return JV_DONE;
+    case JV_NOP:
+        return JV_DONE;
     default:
-        return NO_COMMAND;
+        return JV_NO_COMMAND;
     }
 }
 
@@ -680,7 +660,7 @@ static uint32_t do_word(machine *m, uint32_t word)
     case 2:
         return vertex2ii(m, word);
     default:
-        return NO_COMMAND;
+        return JV_NO_COMMAND;
     }
 }
 
@@ -689,17 +669,17 @@ static run_answer run(machine *m, const uint8_t *list, size_t list_length, uint3
     uint32_t place = 0, count = 0;
     for (;;) {
         if (count == limit)
-            return (run_answer){ LIMIT_REACHED, place, count };
+            return (run_answer){ JV_LIMIT_REACHED, place, count };
         if (place >= list_length)
-            return (run_answer){ PAST_END, place, count };
+            return (run_answer){ JV_PAST_END, place, count };
         uint32_t word = word_at(list + place);
         count++;
-        bool is_display = word >> 24 == 0x00;
+        bool is_display = word >> 24 == JV_DISPLAY;
         if (is_display)
-            return (run_answer){ DONE, 0, count };
+            return (run_answer){ JV_DONE, 0, count };
         m->next = place + 4;
         uint32_t number = do_word(m, word);
-        if (number != DONE)
+        if (number != JV_DONE)
             return (run_answer){ number, place, count };
         place = m->next;
     }
@@ -707,21 +687,21 @@ static run_answer run(machine *m, const uint8_t *list, size_t list_length, uint3
 
 static uint32_t refusal(const run_request *r)
 {
-    if (r->width < 1 || r->width > 800 || r->height < 1 || r->height > 600)
-        return BAD_FRAME;
-    if (r->list_length < 4 || r->list_length > 8192 || r->list_length % 4 != 0)
-        return BAD_LIST;
-    if (r->ram_g_length > 1048576)
-        return BAD_RAM_G;
-    if (r->limit < 1 || r->limit > 65536)
-        return BAD_LIMIT;
-    return DONE;
+    if (r->width < 1 || r->width > JV_MAX_WIDTH || r->height < 1 || r->height > JV_MAX_HEIGHT)
+        return JV_BAD_FRAME;
+    if (r->list_length < JV_MIN_LIST_BYTES || r->list_length > JV_MAX_LIST_BYTES || r->list_length % 4 != 0)
+        return JV_BAD_LIST;
+    if (r->ram_g_length > JV_MAX_RAM_G_BYTES)
+        return JV_BAD_RAM_G;
+    if (r->limit < 1 || r->limit > JV_MAX_LIMIT)
+        return JV_BAD_LIMIT;
+    return JV_DONE;
 }
 
 run_answer run_list_for_actions(const run_request *request, take_action *take, void *taker)
 {
     uint32_t number = refusal(request);
-    if (number != DONE)
+    if (number != JV_DONE)
         return (run_answer){ number, 0, 0 };
     machine m = { .now = starting_values, .ram_g_length = request->ram_g_length, .take = take, .taker = taker };
     return run(&m, request->list, request->list_length, request->limit);

@@ -64,7 +64,7 @@ typedef struct {
     uint16_t width;
 } rectangle_shape;
 
-/* The ends stay in the order given. `primitive` is 3, LINES, or 4, LINE_STRIP: it is one of an action's values. */
+/* The ends stay in the order given. `primitive` is LINES or LINE_STRIP: it is one of an action's values. */
 typedef struct {
     position from, to;
     uint16_t width;

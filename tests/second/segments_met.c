@@ -17,7 +17,7 @@ static const char *const names[SEGMENT_SORTS] = {
 
 static bool is_at_bound(position end)
 {
-    return end.x == -32768 || end.x == 32767 || end.y == -32768 || end.y == 32767;
+    return end.x == JV_MIN_END || end.x == JV_MAX_END || end.y == JV_MIN_END || end.y == JV_MAX_END;
 }
 
 static bool is_in_sight(const run_request *r, const run_action *a)

@@ -7,7 +7,7 @@
 #include "targets.h"
 
 /* The longest run of bytes is the picture of a frame just out of bounds. */
-enum { MOST_RUN_BYTES = 3 * 803 * 603 + 1, NO_RUN = MOST_RUNS };
+enum { MOST_RUN_BYTES = 3 * (JV_MAX_WIDTH + 3) * (JV_MAX_HEIGHT + 3) + 1, NO_RUN = MOST_RUNS };
 
 /* A stretch of up to so many words is tried at every place, a longer one at every multiple of its length. A command of
    the ring is no longer. */

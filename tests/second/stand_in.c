@@ -1,5 +1,5 @@
-/* The nine calls of jokulvisp.h, answered by the second program. It stands in for the archive where that cannot be
-   linked or looked into: on a machine that is not x86-64, and under sanitizers.
+/* The calls of jokulvisp.h, answered by the second program. It stands in for the archive where that cannot be linked or
+   looked into: on a machine that is not x86-64, and under sanitizers.
 
    It gives what the library gives, number by number and byte by byte, but it is a program of its own: what passes with
    it says nothing about the library. */

@@ -10,7 +10,7 @@
 #include "painter.h"
 #include "runner.h"
 
-enum { MOST_LIST_BYTES = 8192, MOST_PIXELS = 800 * 600, MOST_ROWS = 600, RING_BYTES = 4096 };
+enum { MOST_PIXELS = JV_MAX_WIDTH * JV_MAX_HEIGHT };
 
 static bool is_made(const char *mistake)
 {
@@ -53,7 +53,7 @@ jv_answer __wrap_jv_check(const uint8_t *list, size_t list_length, const uint8_t
 static bool is_return_fetched(const uint8_t *list, size_t list_length, const uint8_t *ram_g, size_t ram_g_length,
                               uint32_t width, uint32_t height, uint32_t limit)
 {
-    static uint8_t without[MOST_LIST_BYTES];
+    static uint8_t without[JV_MAX_LIST_BYTES];
     if (list_length > sizeof without)
         return false;
     for (size_t n = 0; n < list_length; n++)
@@ -139,7 +139,7 @@ jv_answer __wrap_jv_repaint(const uint8_t *old_list, size_t old_list_length, con
 /* The last row that each point reaches. */
 typedef struct {
     uint32_t width, height;
-    bool is_last[MOST_ROWS];
+    bool is_last[JV_MAX_HEIGHT];
 } last_rows;
 
 static void find_last_row(void *taker, const run_action *action)
@@ -223,7 +223,7 @@ jv_ring __wrap_jv_ring_write(uint8_t *ring, size_t ring_length, const uint8_t *w
                              uint32_t read, uint32_t write, uint32_t offset, uint32_t fault)
 {
     jv_ring a = __real_jv_ring_write(ring, ring_length, words, words_length, read, write, offset, fault);
-    bool is_around_end = a.number == JV_RING_IDLE && write + words_length > RING_BYTES;
+    bool is_around_end = a.number == JV_RING_IDLE && write + words_length > JV_RING_BYTES;
     if (is_made("the first byte behind the ring's end is lost") && is_around_end)
         ring[0] ^= 1;
     return a;

@@ -7,7 +7,7 @@
 
 #include "../second/guide.h"
 
-static uint8_t ram_g[MOST_RAM_G_BYTES + 1];
+static uint8_t ram_g[JV_MAX_RAM_G_BYTES + 1];
 static bool is_ram_g_filled = false;
 static bool are_lists_as_lent = true;
 

@@ -10,8 +10,6 @@
 #include "../second/runner.h"
 #include "jokulvisp.h"
 
-enum { MOST_LIST_BYTES = 8192, MOST_RAM_G_BYTES = 1048576 };
-
 /* What jv_check gives. RAM_G is a run of that length with bytes that stay the same from one call to the next; it can be
    one byte longer than is allowed. */
 jv_answer answer_of_library(const run_request *request);

@@ -153,7 +153,7 @@ void print_ring_answer(const char *before, jv_ring a)
 
 static bool are_good_marks(ring_marks m)
 {
-    return m.read % 4 == 0 && m.read < RING_BYTES && m.write % 4 == 0 && m.write < RING_BYTES;
+    return m.read % 4 == 0 && m.read < JV_RING_BYTES && m.write % 4 == 0 && m.write < JV_RING_BYTES;
 }
 
 /* Words for RAM_DL are left out where they stand in a row, but for the first of them. */
@@ -167,7 +167,7 @@ static void print_waiting(const uint8_t *ring, ring_marks m)
         last = command;
         if (is_shown)
             printf("    %5" PRIu32 "  %-17s", at, name_of_ring_command(command));
-        for (; left > 0 && at != m.write; left--, at = (at + 4) % RING_BYTES)
+        for (; left > 0 && at != m.write; left--, at = (at + 4) % JV_RING_BYTES)
             if (is_shown)
                 printf("  %08" PRIX32, word_at(ring + at));
         if (is_shown)
@@ -181,7 +181,7 @@ void print_ring(const lent_ring *lent, ring_marks m)
            m.offset, m.fault);
     printf("    lent: a ring of %zu bytes, RAM_DL of %zu, shown of %zu, RAM_G of %zu\n", lent->length[THE_RING],
            lent->length[RAM_DL], lent->length[SHOWN], lent->length[RAM_G]);
-    if (lent->length[THE_RING] == RING_BYTES && are_good_marks(m))
+    if (lent->length[THE_RING] == JV_RING_BYTES && are_good_marks(m))
         print_waiting(lent->bytes[THE_RING], m);
 }
 

@@ -10,10 +10,10 @@
 #include "../second/ringer.h"
 #include "jokulvisp.h"
 
-enum { RING_BYTES = 4096, MOST_WAITING_BYTES = 4092, MOST_WAITING_WORDS = 1023, REPORTED_FAULT = 0xFFF };
+enum { MOST_WAITING_WORDS = JV_MAX_WAITING / 4, REPORTED_FAULT = 0xFFF };
 
 /* Numbers are below this. */
-enum { RING_NUMBERS = 39 };
+enum { RING_NUMBERS = JV_RING_NO_ROOM + 1 };
 
 typedef enum { RUN_RING, WRITE_RING, RESET_RING, RING_CALLS } ring_call;
 

@@ -10,13 +10,13 @@
 #include "../shared/draw.h"
 #include "jokulvisp.h"
 
-enum { LISTS = 30000, MOST_WORDS = 60, LARGEST_RAM_G = 1048576, LIMIT = 500 };
+enum { LISTS = 30000, MOST_WORDS = 60, LIMIT = 500 };
 
-static const uint8_t ram_g[LARGEST_RAM_G];
+static const uint8_t ram_g[JV_MAX_RAM_G_BYTES];
 
 static uint32_t draw_format(void)
 {
-    static const uint32_t drawn[] = { 0, 3, 7 };
+    static const uint32_t drawn[] = { JV_FORMAT_ARGB1555, JV_FORMAT_L8, JV_FORMAT_RGB565 };
     return drawn[draw_below(3)];
 }
 
@@ -76,7 +76,7 @@ static jv_bits draw_word(uint32_t saves)
 static void make_list(display_list *list)
 {
     list->length = 0;
-    append_word(list, jv_write_word(JV_BEGIN, 1, 0, 0, 0, 0).bits);
+    append_word(list, jv_write_word(JV_BEGIN, JV_PRIMITIVE_BITMAPS, 0, 0, 0, 0).bits);
     uint32_t settings = draw_below(20), saves = draw_below(8);
     for (uint32_t n = 1; n < MOST_WORDS; n++)
         append_word(list, n < settings ? draw_setting().bits : draw_word(saves).bits);
@@ -100,8 +100,8 @@ static void check_cause(const display_list *list, size_t ram_g_length, jv_answer
     counts[cause]++;
     CHECK_HOLDS(cause != NOTHING_WRONG, "a cause is found for the fault at %" PRIu32, answer.place);
     if (cause != OUTSIDE_RAM_G) {
-        CHECK_HOLDS(is_still_at_fault(list, LARGEST_RAM_G, answer), "cause %d is not RAM_G", cause);
-    } else if (end_of_cell(&b) <= LARGEST_RAM_G) {
+        CHECK_HOLDS(is_still_at_fault(list, JV_MAX_RAM_G_BYTES, answer), "cause %d is not RAM_G", cause);
+    } else if (end_of_cell(&b) <= JV_MAX_RAM_G_BYTES) {
         CHECK_HOLDS(is_still_at_fault(list, end_of_cell(&b) - 1, answer), "a cell ends no earlier than told");
         CHECK_HOLDS(!is_still_at_fault(list, end_of_cell(&b), answer), "a cell ends no later than told");
     }

@@ -11,7 +11,7 @@
 #include "../shared/draw.h"
 #include "jokulvisp.h"
 
-enum { LISTS = 30000, MOST_WORDS = 60, LIMIT = 500, POINTS = 2, LINES = 3, LEAST_MET = 1000 };
+enum { LISTS = 30000, MOST_WORDS = 60, LIMIT = 500, LEAST_MET = 1000 };
 
 static jv_bits draw_setting(void)
 {
@@ -19,13 +19,13 @@ static jv_bits draw_setting(void)
     int32_t translation = draw_below(3) == 0 ? far : near;
     switch (draw_below(4)) {
     case 0:
-        return jv_write_word(JV_VERTEX_FORMAT, draw_below(5), 0, 0, 0, 0);
+        return jv_write_word(JV_VERTEX_FORMAT, draw_below(JV_MAX_FRAC + 1), 0, 0, 0, 0);
     case 1:
         return jv_write_word(JV_VERTEX_TRANSLATE_X, (uint32_t)translation, 0, 0, 0, 0);
     case 2:
         return jv_write_word(JV_VERTEX_TRANSLATE_Y, (uint32_t)translation, 0, 0, 0, 0);
     default:
-        return jv_write_word(JV_BEGIN, LINES + draw_below(2), 0, 0, 0, 0);
+        return jv_write_word(JV_BEGIN, JV_PRIMITIVE_LINES + draw_below(2), 0, 0, 0, 0);
     }
 }
 
@@ -58,7 +58,7 @@ static jv_bits draw_word(void)
 static void make_list(display_list *list)
 {
     list->length = 0;
-    append_word(list, jv_write_word(JV_BEGIN, LINES, 0, 0, 0, 0).bits);
+    append_word(list, jv_write_word(JV_BEGIN, JV_PRIMITIVE_LINES, 0, 0, 0, 0).bits);
     for (uint32_t n = 1; n < MOST_WORDS; n++)
         append_word(list, draw_word().bits);
 }
@@ -85,7 +85,8 @@ static last_points points_of(const display_list *list, uint32_t count)
     for (size_t place = 0; place < list->length; place += 4) {
         jv_word word = jv_read_word(word_at(list, place));
         bool begins = word.command == JV_BEGIN;
-        append_word(&points, begins ? jv_write_word(JV_BEGIN, POINTS, 0, 0, 0, 0).bits : word_at(list, place));
+        append_word(&points,
+                    begins ? jv_write_word(JV_BEGIN, JV_PRIMITIVE_POINTS, 0, 0, 0, 0).bits : word_at(list, place));
     }
     run_list_for_actions(&(run_request){ points.bytes, points.length, 0, 480, 272, count }, keep_point, &last);
     return last;

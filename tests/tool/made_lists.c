@@ -10,8 +10,9 @@
 
 #include "../../tool/names.h"
 #include "../shared/draw.h"
+#include "jokulvisp.h"
 
-enum { MOST_WORDS = 2048 };
+enum { MOST_WORDS = JV_MAX_LIST_BYTES / 4 };
 
 static uint8_t list[4 * MOST_WORDS];
 static size_t words;

@@ -11,8 +11,6 @@
 #include "../shared/check.h"
 #include "jokulvisp.h"
 
-enum { COMMANDS = 48 };
-
 static jv_bits write_values(const command_names *names, const uint32_t v[MOST_FIELDS])
 {
     return jv_write_word(names->command, v[0], v[1], v[2], v[3], v[4]);
@@ -155,11 +153,9 @@ static void check_numbers(void)
 
 static int check_table(void)
 {
-    size_t count = 0;
     begin_part("commands and their fields");
-    for (; names_at(count) != NULL; count++)
-        check_command(names_at(count));
-    CHECK_HOLDS(count == COMMANDS, "the table has %d commands, not %zu", COMMANDS, count);
+    for (size_t n = 0; names_at(n) != NULL; n++)
+        check_command(names_at(n));
     check_numbers();
     return end_checks();
 }

@@ -16,14 +16,14 @@
 #include "../shared/check.h"
 #include "jokulvisp.h"
 
-enum { WIDEST = 816, HIGHEST = 600, STRIP = 16, LIMIT = 65536, COLOURS = 256 };
+enum { STRIP = 16, WIDEST = STRIP + JV_MAX_WIDTH, COLOURS = 256 };
 
 /* The bytes of a PNG file's pixels: three of them a pixel, or one where there is a palette. */
 typedef struct {
     const char *name;
     uint32_t width, height;
     int depth, kind;
-    uint8_t bytes[3 * WIDEST * HIGHEST];
+    uint8_t bytes[3 * WIDEST * JV_MAX_HEIGHT];
     png_color palette[COLOURS];
     int colours;
 } image;
@@ -62,7 +62,7 @@ static void read_head(image *i, png_structp png, png_infop info)
     i->depth = png_get_bit_depth(png, info);
     i->kind = png_get_color_type(png, info);
     bool is_known = i->kind == PNG_COLOR_TYPE_RGB || i->kind == PNG_COLOR_TYPE_PALETTE;
-    if (!is_known || i->depth != 8 || i->width > WIDEST || i->height > HIGHEST)
+    if (!is_known || i->depth != 8 || i->width > WIDEST || i->height > JV_MAX_HEIGHT)
         give_up(i->name, "neither 8-bit RGB nor 8-bit indexed, or too large");
     if (png_get_rowbytes(png, info) != row_bytes(i) || png_get_interlace_type(png, info) != PNG_INTERLACE_NONE)
         give_up(i->name, "rows of another length, or interlaced");
@@ -181,12 +181,13 @@ static void compare_tags(char *name, uint32_t width, uint32_t height, const uint
 /* ---- Painting ---- */
 
 typedef struct {
-    uint8_t bytes[1048576];
+    uint8_t bytes[JV_MAX_RAM_G_BYTES];
     size_t length;
 } run_of_bytes;
 
 static run_of_bytes ram_g, lists[2];
-static uint8_t picture[3 * WIDEST * HIGHEST], tags[WIDEST * HIGHEST], marks[HIGHEST], marked[3 * WIDEST * HIGHEST];
+static uint8_t picture[3 * WIDEST * JV_MAX_HEIGHT], tags[WIDEST * JV_MAX_HEIGHT], marks[JV_MAX_HEIGHT],
+    marked[3 * WIDEST * JV_MAX_HEIGHT];
 
 static void read_bytes(run_of_bytes *run, const char *name)
 {
@@ -201,7 +202,7 @@ static void paint(uint32_t width, uint32_t height)
 {
     begin_part("painting");
     size_t pixels = (size_t)width * height;
-    jv_answer answer = jv_paint(lists[0].bytes, lists[0].length, ram_g.bytes, ram_g.length, width, height, LIMIT,
+    jv_answer answer = jv_paint(lists[0].bytes, lists[0].length, ram_g.bytes, ram_g.length, width, height, JV_MAX_LIMIT,
                                 picture, 3 * pixels, tags, pixels);
     CHECK_HOLDS(answer.number == JV_DONE, "the list draws");
 }
@@ -209,8 +210,9 @@ static void paint(uint32_t width, uint32_t height)
 static void repaint(uint32_t width, uint32_t height)
 {
     size_t pixels = (size_t)width * height;
-    jv_answer answer = jv_repaint(lists[0].bytes, lists[0].length, lists[1].bytes, lists[1].length, ram_g.bytes,
-                                  ram_g.length, width, height, LIMIT, picture, 3 * pixels, tags, pixels, marks, height);
+    jv_answer answer =
+        jv_repaint(lists[0].bytes, lists[0].length, lists[1].bytes, lists[1].length, ram_g.bytes, ram_g.length, width,
+                   height, JV_MAX_LIMIT, picture, 3 * pixels, tags, pixels, marks, height);
     CHECK_HOLDS(answer.number == JV_DONE, "both lists draw");
 }
 
