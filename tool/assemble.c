@@ -102,11 +102,7 @@ static void assemble_lines(assembly *a, list_text t)
 
 static bool write_list(const display_list *list, const char *name)
 {
-    output_file file;
-    if (!open_output(&file, name))
-        return false;
-    put_bytes(&file, list->bytes, list->length);
-    return close_outputs(&file, 1, true);
+    return write_outputs(&(output){ name, list->bytes, list->length }, 1);
 }
 
 static void print_success(FILE *out, const char *output, const display_list *list)

@@ -1,80 +1,90 @@
 #include "frame.h"
 
+#include "image.h"
 #include "output.h"
 
-enum { MOST_IMAGES = 3 };
-
-typedef bool put_image(output_file *file, const order *o, const frame *f);
+typedef bool make_image(png_file *file, const order *o, const frame *f);
 
 typedef struct {
     const char *name;
-    put_image *put;
+    make_image *make;
 } wanted_image;
-
-static bool is_within_bounds(const order *o)
-{
-    return o->width <= MOST_WIDTH && o->height <= MOST_HEIGHT;
-}
 
 size_t pixels_of(const order *o)
 {
-    return is_within_bounds(o) ? (size_t)o->width * o->height : 0;
+    return (size_t)o->width * o->height;
 }
 
-size_t rows_of(const order *o)
-{
-    return is_within_bounds(o) ? o->height : 0;
-}
+/* ---- Painting ---- */
 
-jv_answer paint_list(frame *f, const order *o, const run_input *input)
+static jv_answer paint_row(frame *f, const order *o, const run_input *input, uint32_t row)
 {
     const display_list *list = &input->lists[0];
+    size_t width = o->width, start = row * width;
+    return jv_paint_row(list->bytes, held_bytes(list), input->ram_g, held_ram_g(input), o->width, o->height, row,
+                        o->limit, f->picture + 3 * start, 3 * width, f->tags + start, width);
+}
+
+/* Each row takes a run of the list, so this is for those who want to see how far it is. */
+static jv_answer paint_rows(frame *f, const order *o, const run_input *input)
+{
+    jv_answer answer = paint_row(f, o, input, 0);
+    for (uint32_t row = 1; answer.number == JV_DONE && row < o->height; row++) {
+        note_row();
+        answer = paint_row(f, o, input, row);
+    }
+    return answer;
+}
+
+jv_answer paint_list(frame *f, const order *o, const run_input *input, stage s)
+{
+    const display_list *list = &input->lists[0];
+    begin_stage(s, o->height);
+    if (shows_progress(o))
+        return paint_rows(f, o, input);
     return jv_paint(list->bytes, held_bytes(list), input->ram_g, held_ram_g(input), o->width, o->height, o->limit,
                     f->picture, 3 * pixels_of(o), f->tags, pixels_of(o));
 }
 
-static bool put_frame_picture(output_file *file, const order *o, const frame *f)
+/* ---- Writing ---- */
+
+static bool make_frame_picture(png_file *file, const order *o, const frame *f)
 {
-    return put_picture(file, o->width, o->height, f->picture);
+    return make_picture(file, o->width, o->height, f->picture);
 }
 
-static bool put_frame_tags(output_file *file, const order *o, const frame *f)
+static bool make_frame_tags(png_file *file, const order *o, const frame *f)
 {
-    return put_tags(file, o->width, o->height, f->tags);
+    return make_tags(file, o->width, o->height, f->tags);
 }
 
-static bool put_frame_marks(output_file *file, const order *o, const frame *f)
+static bool make_frame_marks(png_file *file, const order *o, const frame *f)
 {
-    return put_marks(file, o->width, o->height, f->picture, f->marks);
+    return make_marks(file, o->width, o->height, f->picture, f->marks);
 }
 
-/* Gives how many there are. */
-static size_t list_wanted(const order *o, wanted_image wanted[MOST_IMAGES])
+/* Returns how many there are. */
+static size_t list_wanted(const order *o, wanted_image wanted[MOST_OUTPUTS])
 {
     size_t count = 0;
-    wanted[count++] = (wanted_image){ o->output, put_frame_picture };
+    wanted[count++] = (wanted_image){ o->output, make_frame_picture };
     if (o->tags != NULL)
-        wanted[count++] = (wanted_image){ o->tags, put_frame_tags };
+        wanted[count++] = (wanted_image){ o->tags, make_frame_tags };
     if (o->marks != NULL)
-        wanted[count++] = (wanted_image){ o->marks, put_frame_marks };
+        wanted[count++] = (wanted_image){ o->marks, make_frame_marks };
     return count;
-}
-
-static bool put_all(const frame *f, const order *o, const wanted_image *wanted, output_file *files, size_t count)
-{
-    for (size_t n = 0; n < count; n++)
-        if (!wanted[n].put(&files[n], o, f))
-            return false;
-    return true;
 }
 
 bool write_frame(const frame *f, const order *o)
 {
-    wanted_image wanted[MOST_IMAGES];
-    output_file files[MOST_IMAGES];
-    size_t count = list_wanted(o, wanted), opened = 0;
-    while (opened < count && open_output(&files[opened], wanted[opened].name))
-        opened++;
-    bool are_put = opened == count && put_all(f, o, wanted, files, count);
-    return close_outputs(files, opened, are_put);
+    static png_file files[MOST_OUTPUTS];
+    wanted_image wanted[MOST_OUTPUTS];
+    output outputs[MOST_OUTPUTS];
+    size_t count = list_wanted(o, wanted);
+    for (size_t n = 0; n < count; n++) {
+        if (!wanted[n].make(&files[n], o, f))
+            return false;
+        outputs[n] = (output){ wanted[n].name, files[n].bytes, files[n].length };
+    }
+    return write_outputs(outputs, count);
 }

@@ -3,27 +3,24 @@
 #include <png.h>
 #include <string.h>
 
-/* The largest picture and the strip, with room for what compression can add to bytes that it cannot make fewer. */
-enum { MOST_PNG_BYTES = 1 << 21 };
+#include "jokulvisp.h"
+#include "message.h"
 
 static const uint8_t bright[] = { 255, 96, 0 }, dark[] = { 32, 32, 32 };
 
-static bool put_png(output_file *file, png_image *image, const uint8_t *pixels, const uint8_t *palette)
+static bool make_png(png_file *file, png_image *image, const uint8_t *pixels, const uint8_t *palette)
 {
-    static uint8_t png[MOST_PNG_BYTES];
-    png_alloc_size_t length = sizeof png;
-    if (png_image_write_to_memory(image, png, &length, 0, pixels, 0, palette) == 0) {
-        fprintf(stderr, "jokulvisp: %s: %s\n", file->name, image->message);
-        return false;
-    }
-    put_bytes(file, png, length);
+    png_alloc_size_t length = sizeof file->bytes;
+    if (png_image_write_to_memory(image, file->bytes, &length, 0, pixels, 0, palette) == 0)
+        return complain(NULL, "%s", image->message);
+    file->length = length;
     return true;
 }
 
-bool put_picture(output_file *file, uint32_t width, uint32_t height, const uint8_t *picture)
+bool make_picture(png_file *file, uint32_t width, uint32_t height, const uint8_t *picture)
 {
     png_image image = { .version = PNG_IMAGE_VERSION, .width = width, .height = height, .format = PNG_FORMAT_RGB };
-    return put_png(file, &image, picture, NULL);
+    return make_png(file, &image, picture, NULL);
 }
 
 /* ---- Tags ---- */
@@ -63,7 +60,7 @@ static void make_palette(uint8_t palette[3 * TAGS])
     memset(palette + 3 * (TAGS - 1), 255, 3);
 }
 
-bool put_tags(output_file *file, uint32_t width, uint32_t height, const uint8_t *tags)
+bool make_tags(png_file *file, uint32_t width, uint32_t height, const uint8_t *tags)
 {
     uint8_t palette[3 * TAGS];
     png_image image = {
@@ -74,7 +71,7 @@ bool put_tags(output_file *file, uint32_t width, uint32_t height, const uint8_t 
         .colormap_entries = TAGS,
     };
     make_palette(palette);
-    return put_png(file, &image, tags, palette);
+    return make_png(file, &image, tags, palette);
 }
 
 /* ---- Marks ---- */
@@ -85,13 +82,13 @@ static void fill_strip(uint8_t *row, const uint8_t colour[3])
         memcpy(row + 3 * (size_t)n, colour, 3);
 }
 
-bool put_marks(output_file *file, uint32_t width, uint32_t height, const uint8_t *picture, const uint8_t *marks)
+bool make_marks(png_file *file, uint32_t width, uint32_t height, const uint8_t *picture, const uint8_t *marks)
 {
-    static uint8_t marked[3 * (STRIP + MOST_WIDTH) * MOST_HEIGHT];
+    static uint8_t marked[3 * (STRIP + JV_MAX_WIDTH) * JV_MAX_HEIGHT];
     size_t picture_row = 3 * (size_t)width, marked_row = picture_row + 3 * STRIP;
     for (size_t y = 0; y < height; y++) {
         fill_strip(marked + y * marked_row, marks[y] != 0 ? bright : dark);
         memcpy(marked + y * marked_row + 3 * STRIP, picture + y * picture_row, picture_row);
     }
-    return put_picture(file, width + STRIP, height, marked);
+    return make_picture(file, width + STRIP, height, marked);
 }

@@ -1,24 +1,30 @@
-/* Pictures as the bytes of PNG files. */
+/* Pictures as PNG files. */
 #ifndef IMAGE_H
 #define IMAGE_H
 
 #include <stdbool.h>
+#include <stddef.h>
 #include <stdint.h>
 
-#include "output.h"
+/* STRIP is in pixels. There is room for the largest picture with the strip, and for what compression can add to bytes
+   that it cannot make fewer. */
+enum { STRIP = 16, MOST_PNG_BYTES = 1 << 21 };
 
-enum { MOST_WIDTH = 800, MOST_HEIGHT = 600, STRIP = 16 };
+typedef struct {
+    size_t length;
+    uint8_t bytes[MOST_PNG_BYTES];
+} png_file;
 
-/* Each of these puts a whole PNG file. If that is not possible, says so on standard error and gives false. */
+/* Each of these makes a whole PNG file. If that is not possible, says so on standard error and returns false. */
 
 /* Three bytes a pixel: red, green and blue. */
-bool put_picture(output_file *file, uint32_t width, uint32_t height, const uint8_t *picture);
+bool make_picture(png_file *file, uint32_t width, uint32_t height, const uint8_t *picture);
 
 /* One byte a pixel, its tag, which is also its index into a palette: tag 0 is black, 255 white, and each other one has
    a colour of its own. */
-bool put_tags(output_file *file, uint32_t width, uint32_t height, const uint8_t *tags);
+bool make_tags(png_file *file, uint32_t width, uint32_t height, const uint8_t *tags);
 
 /* The picture, and left of it a strip, bright beside the rows that have a mark and dark beside the others. */
-bool put_marks(output_file *file, uint32_t width, uint32_t height, const uint8_t *picture, const uint8_t *marks);
+bool make_marks(png_file *file, uint32_t width, uint32_t height, const uint8_t *picture, const uint8_t *marks);
 
 #endif

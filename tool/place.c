@@ -1,54 +1,187 @@
-/* For realpath, stat and access. */
-#define _XOPEN_SOURCE 700
+/* For O_PATH and fstatfs. */
+#define _GNU_SOURCE
 
 #include "place.h"
 
 #include <errno.h>
+#include <fcntl.h>
 #include <limits.h>
-#include <stdio.h>
 #include <stdlib.h>
 #include <string.h>
-#include <sys/stat.h>
+#include <sys/vfs.h>
 #include <unistd.h>
 
 #include "file.h"
 
-/* realpath writes up to PATH_MAX bytes. */
-_Static_assert(MOST_PLACE >= PATH_MAX, "a place has room for every path");
+/* As many links as the kernel follows. */
+enum { MOST_LINKS = 40, PROC_FILE_SYSTEM = 0x9FA0 };
 
-/* Where the folder of a file lies that is not there yet, with its last name after it. */
-static bool find_free_place(const char *name, char place[MOST_PLACE])
+int keep_above_standard(int descriptor)
 {
-    char folder[MOST_PLACE], found[MOST_PLACE];
-    const char *slash = strrchr(name, '/'), *last = slash != NULL ? slash + 1 : name;
-    bool fits = last - name < MOST_PLACE;
-    snprintf(folder, sizeof folder, "%.*s", slash != NULL ? (int)(last - name) : 1, slash != NULL ? name : ".");
-    errno = fits ? ENOENT : ENAMETOOLONG;
-    if (!fits || *last == '\0' || realpath(folder, found) == NULL)
+    if (descriptor < 0 || descriptor > STDERR_FILENO)
+        return descriptor;
+    int moved = fcntl(descriptor, F_DUPFD_CLOEXEC, STDERR_FILENO + 1);
+    close(descriptor);
+    return moved;
+}
+
+static bool is_one_file(const struct stat *a, const struct stat *b)
+{
+    return a->st_dev == b->st_dev && a->st_ino == b->st_ino;
+}
+
+/* ---- Following a name ---- */
+
+/* Opens the folder of the path's last name. Links are relative to the folder they are in, so that one is the start. */
+static bool enter_folder(place *p, const char *path)
+{
+    char folder[PATH_MAX] = ".";
+    const char *slash = strrchr(path, '/'), *last = slash != NULL ? slash + 1 : path;
+    if (*last == '\0') {
+        errno = fstatat(p->folder, path, &p->found, 0) == 0 ? EISDIR : errno;
         return false;
+    }
     errno = ENAMETOOLONG;
-    return snprintf(place, MOST_PLACE, "%s/%s", found, last) < MOST_PLACE;
+    if (strlen(last) > MOST_LAST_NAME)
+        return false;
+    if (slash != NULL)
+        *(char *)mempcpy(folder, path, (size_t)(last - path)) = '\0';
+    int entered = keep_above_standard(openat(p->folder, folder, O_PATH | O_DIRECTORY | O_CLOEXEC));
+    if (entered < 0)
+        return false;
+    leave_place(p);
+    p->folder = entered;
+    strcpy(p->last, last);
+    return true;
 }
 
-bool find_place(const char *name, char place[MOST_PLACE])
+static bool holds_own_descriptors(int folder)
 {
-    return realpath(name, place) != NULL || (errno == ENOENT && find_free_place(name, place));
+    struct stat own, found;
+    return stat("/proc/self/fd", &own) == 0 && fstat(folder, &found) == 0 && is_one_file(&own, &found);
 }
 
-bool is_ordinary(const char *name)
+/* A descriptor that the caller has opened stays open when a program is executed. Those opened here do not. */
+static bool is_callers(int descriptor)
 {
-    struct stat found;
-    return stat(name, &found) != 0 || S_ISREG(found.st_mode);
+    int flags = fcntl(descriptor, F_GETFD);
+    return flags >= 0 && (flags & FD_CLOEXEC) == 0;
 }
 
-bool is_protected(const char *name)
+static bool take_descriptor(place *p)
 {
-    return access(name, F_OK) == 0 && access(name, W_OK) != 0;
+    char *end = NULL;
+    long number = strtol(p->last, &end, 10);
+    bool is_number = '0' <= p->last[0] && p->last[0] <= '9' && *end == '\0';
+    p->descriptor = is_number && number <= INT_MAX ? (int)number : -1;
+    p->exists = is_callers(p->descriptor) && fstat(p->descriptor, &p->found) == 0;
+    errno = is_number ? EBADF : ENOENT;
+    leave_place(p);
+    return p->exists;
+}
+
+/* The links in /proc are descriptors of other processes: what they say is no name. */
+static bool is_in_proc(int folder)
+{
+    struct statfs found;
+    return fstatfs(folder, &found) == 0 && found.f_type == PROC_FILE_SYSTEM;
+}
+
+/* Asks the kernel first, which may refuse to follow a link of someone else's. */
+static bool look_at(place *p)
+{
+    p->exists = fstatat(p->folder, p->last, &p->found, 0) == 0;
+    p->is_fixed = (p->exists && !S_ISREG(p->found.st_mode)) || is_in_proc(p->folder);
+    return p->exists || errno == ENOENT;
+}
+
+/* Whether the place is a link that leads to another name. Gives that name. */
+static bool is_link(const place *p, char path[PATH_MAX])
+{
+    ssize_t length = p->is_fixed ? -1 : readlinkat(p->folder, p->last, path, PATH_MAX - 1);
+    if (length >= 0)
+        path[length] = '\0';
+    return length >= 0;
+}
+
+static bool follow(place *p, char path[PATH_MAX])
+{
+    for (int links = 0; links <= MOST_LINKS; links++) {
+        if (!enter_folder(p, path))
+            return false;
+        if (holds_own_descriptors(p->folder))
+            return take_descriptor(p);
+        if (!look_at(p))
+            return false;
+        if (!is_link(p, path))
+            return true;
+    }
+    errno = ELOOP;
+    return false;
+}
+
+bool find_place(const char *name, place *p)
+{
+    char path[PATH_MAX];
+    *p = (place){ .descriptor = -1, .folder = AT_FDCWD };
+    errno = ENAMETOOLONG;
+    if (strlen(name) >= sizeof path)
+        return false;
+    strcpy(path, name);
+    if (follow(p, path))
+        return true;
+    leave_place(p);
+    return false;
+}
+
+void leave_place(place *p)
+{
+    int reason = errno;
+    if (p->folder >= 0)
+        close(p->folder);
+    p->folder = -1;
+    errno = reason;
+}
+
+/* ---- Comparing places ---- */
+
+bool is_standard_output(const char *name)
+{
+    place p;
+    if (is_standard(name))
+        return true;
+    bool is_found = find_place(name, &p);
+    leave_place(&p);
+    return is_found && p.descriptor == STDOUT_FILENO;
+}
+
+static bool are_one_descriptor(const place *a, const place *b)
+{
+    return a->descriptor >= 0 && a->descriptor == b->descriptor;
+}
+
+static bool are_one_regular_file(const place *a, const place *b)
+{
+    return a->exists && b->exists && S_ISREG(a->found.st_mode) && is_one_file(&a->found, &b->found);
+}
+
+static bool are_one_free_place(const place *a, const place *b)
+{
+    struct stat folder_a, folder_b;
+    return !a->exists && !b->exists && strcmp(a->last, b->last) == 0 && fstat(a->folder, &folder_a) == 0 &&
+           fstat(b->folder, &folder_b) == 0 && is_one_file(&folder_a, &folder_b);
 }
 
 bool are_one_place(const char *a, const char *b)
 {
-    char place_a[MOST_PLACE], place_b[MOST_PLACE];
-    bool are_found = !is_standard(a) && !is_standard(b) && find_place(a, place_a) && find_place(b, place_b);
-    return are_found && is_ordinary(place_a) && strcmp(place_a, place_b) == 0;
+    place place_a, place_b;
+    if (is_standard(a) || is_standard(b))
+        return false;
+    bool are_found = find_place(a, &place_a);
+    are_found = find_place(b, &place_b) && are_found;
+    bool are_one = are_found && (are_one_descriptor(&place_a, &place_b) || are_one_regular_file(&place_a, &place_b) ||
+                                 are_one_free_place(&place_a, &place_b));
+    leave_place(&place_a);
+    leave_place(&place_b);
+    return are_one;
 }

@@ -1,22 +1,36 @@
-/* Places of files that are written. */
+/* Where an output goes. */
 #ifndef PLACE_H
 #define PLACE_H
 
 #include <stdbool.h>
+#include <sys/stat.h>
 
-enum { MOST_PLACE = 4096 };
+enum { MOST_LAST_NAME = 255 };
 
-/* Where a file of this name lies or would lie, whatever links lead there. Gives false, and the reason in errno, where
-   there is no such place. */
-bool find_place(const char *name, char place[MOST_PLACE]);
+/* Either a descriptor of this process, as /dev/stdout names one, or a name in a folder. */
+typedef struct {
+    int descriptor;                /* -1 for a name in a folder */
+    int folder;                    /* open, for the calls that take a folder and a name in it; -1 for a descriptor */
+    char last[MOST_LAST_NAME + 1]; /* the name in that folder */
+    bool is_fixed;                 /* no file can take its place: a device, or a link in /proc that leads to no name */
+    bool exists;
+    struct stat found; /* if it exists */
+} place;
 
-/* A place that is free or taken by an ordinary file. */
-bool is_ordinary(const char *name);
+/* Follows all links, also one to a file that does not exist yet. Returns false, with the reason in errno, if there is
+   no such place. Otherwise call leave_place later. */
+bool find_place(const char *name, place *p);
+void leave_place(place *p);
 
-/* Whether an ordinary file lies there that may not be written. Gives the reason in errno. */
-bool is_protected(const char *name);
+/* Whether the output goes to standard output: '-', and what leads to descriptor 1, as /dev/stdout does. */
+bool is_standard_output(const char *name);
 
-/* Whether two names lead to one place that can only hold one file. Standard input and output and devices are none. */
+/* Whether two names lead to the same descriptor or the same regular file, existing or not. '-' and devices do not
+   count. */
 bool are_one_place(const char *a, const char *b);
+
+/* Moves a descriptor above the three standard ones, which may have been closed by the caller: what is meant for them
+   must not end up in a file. Returns the new one, or -1 for -1. */
+int keep_above_standard(int descriptor);
 
 #endif

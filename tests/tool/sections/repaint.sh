@@ -57,3 +57,30 @@ try "repaint, RAM_G too large" \
     write_and_keep check-large-ram-g repaint -g large_ram_g "${repainted[@]}" panel.list edited.list
 try "repaint, a limit of 0" write_and_keep repaint-limit-0 repaint -l 0 "${repainted[@]}" panel.list edited.list
 try "repaint, a missing list" write_and_keep missing-list repaint "${repainted[@]}" panel.list missing.list
+
+# ---- --exit-code -----------------------------------------------------------------------------------------------------
+
+# Whether repaint says the same with --exit-code as without, and has this exit status. Arguments: status, both lists.
+repaint_judged() {
+    local status=0
+    jokulvisp repaint -o drawn.png "$2" "$3" >unjudged 2>&1 || true
+    jokulvisp repaint --exit-code -o drawn.png "$2" "$3" >judged 2>&1 || status=$?
+    diff -u unjudged judged && [ "$status" -eq "$1" ]
+}
+
+# Whether it says nothing, with -q, and has this exit status.
+repaint_quietly() {
+    local status=0
+    jokulvisp repaint -q -o drawn.png "${@:2}" >said 2>&1 || status=$?
+    [ ! -s said ] && [ "$status" -eq "$1" ]
+}
+
+try "repaint, judged, no row is marked" repaint_judged 0 panel.list panel.list
+try "repaint, judged, rows are marked" repaint_judged 1 panel.list edited.list
+try "repaint, judged, a fault in the old list" repaint_judged 2 faulty.list panel.list
+try "repaint, judged, a fault in the new list" repaint_judged 2 panel.list faulty.list
+try "repaint, judged, a missing list" repaint_judged 2 panel.list missing.list
+try "repaint, quietly" repaint_quietly 0 panel.list edited.list
+try "repaint, quietly and judged, rows are marked" repaint_quietly 1 --exit-code panel.list edited.list
+try "repaint, quietly, a fault" repaint_quietly 1 panel.list faulty.list
+try "repaint, quietly and judged, a fault" repaint_quietly 2 --exit-code panel.list faulty.list

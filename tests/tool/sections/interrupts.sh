@@ -1,0 +1,182 @@
+# shellcheck shell=bash disable=SC2034,SC2154 # what is shared is set and read in different files
+# What ends the tool early: signals, closed pipes, limits of the system and --timeout; and the progress that a terminal
+# shows meanwhile. Sourced by tests/tool/run.
+
+# Prints so many lines of the same words.
+repeat() {
+    for ((n = 0; n < $1; n++)); do echo "${@:2}"; done
+}
+
+# Prints a list of some 400 bytes that draws 29,040 blended rectangles over the whole frame, which takes minutes.
+print_slow_list() {
+    echo 'CLEAR(1, 1, 1)' && echo 'VERTEX_FORMAT(0)' && echo 'COLOR_A(128)' && echo 'BEGIN(RECTS)'
+    repeat 11 'CALL(one)' && echo DISPLAY
+    echo one: && repeat 10 'CALL(two)' && echo RETURN
+    echo two: && repeat 11 'CALL(three)' && echo RETURN
+    echo three: && repeat 24 $'VERTEX2F(0, 0)\nVERTEX2F(799, 599)' && echo RETURN
+}
+
+print_slow_list >slow.txt
+try "a slow list is assembled" jokulvisp assemble -q -o slow.list slow.txt
+try "the slow list draws" jokulvisp check -q slow.list
+small=(-s 2x2 small.list)
+slow=(-s 800x600 slow.list)
+
+# ---- Pipes that are closed or full -----------------------------------------------------------------------------------
+
+# Draws to a pipe that nobody reads, without what the shell says of a signal.
+draw_to_closed_pipe() {
+    local status=0
+    rm -f pipe
+    mkfifo pipe
+    # shellcheck disable=SC2094 # a pipe must have a reader to be opened for writing
+    exec 7<>pipe 8>pipe 7>&-
+    { jokulvisp draw -o - --tags tags.png "${small[@]}" 2>said >&8 || status=$?; } 2>/dev/null
+    exec 8>&-
+    cat said >&2
+    return "$status"
+}
+
+# Does so over a file that is there already.
+write_to_closed_pipe() {
+    echo 'as before' >tags.png
+    compare "$1" draw_to_closed_pipe && [ "$(cat tags.png)" = 'as before' ] && has_no_part
+}
+
+write_with_pipes_ignored() {
+    (trap '' PIPE && write_to_closed_pipe broken-pipe)
+}
+
+write_to_many_pipes() {
+    for _ in {1..101}; do jokulvisp draw -o - --tags tags.png "${small[@]}" 2>said | true; done
+    has_no_part && rm -f tags.png && compare_tool draw-small draw -o /dev/null --tags tags.png "${small[@]}" &&
+        [ -s tags.png ]
+}
+
+# Starts the tool such that it waits, with a part beside tags.png, for a reader of a full pipe.
+start_before_full_pipe() {
+    rm -f pipe said
+    mkfifo pipe
+    exec 7<>pipe
+    dd if=/dev/zero of=pipe bs=512 oflag=nonblock status=none 2>/dev/null || true
+    echo 'as before' >tags.png
+    "${RUN[@]}" "$tool" draw "$@" -o pipe --tags tags.png "${small[@]}" >said 2>&1 &
+    for _ in {1..100}; do
+        ! compgen -G '.jokulvisp-*.part' >/dev/null || return 0
+        sleep 0.05
+    done
+    return 1
+}
+
+# Ends it by a signal.
+end_before_full_pipe() {
+    local status=0
+    start_before_full_pipe && kill "-$1" $! || return
+    wait $! 2>/dev/null || status=$?
+    exec 7>&-
+    [ "$status" -eq "$2" ] && [ ! -s said ] && [ "$(cat tags.png)" = 'as before' ] && has_no_part
+}
+
+give_up_before_full_pipe() {
+    local status=0
+    start_before_full_pipe --timeout 0.3 || return
+    wait $! || status=$?
+    exec 7>&-
+    [ "$status" -eq 2 ] && diff -u <(echo 'jokulvisp: draw: gave up after 0.3 seconds (--timeout).') said &&
+        [ "$(cat tags.png)" = 'as before' ] && has_no_part
+}
+
+# Goes on after a part that a kill has left behind, which it does not touch.
+write_after_kill() {
+    start_before_full_pipe && kill -KILL $! || return
+    wait $! 2>/dev/null || true
+    exec 7>&-
+    compgen -G '.jokulvisp-*.part' >left && compare_tool draw-small draw -o drawn.png --tags tags.png "${small[@]}" &&
+        compgen -G '.jokulvisp-*.part' | diff -u left - && rm .jokulvisp-*.part
+}
+
+try "a closed pipe" write_to_closed_pipe closed-pipe
+try "a closed pipe, and no signal for it" write_with_pipes_ignored
+try "101 pipes that nobody reads" write_to_many_pipes
+try "SIGTERM before a full pipe" end_before_full_pipe TERM 143
+try "SIGHUP before a full pipe" end_before_full_pipe HUP 129
+try "the time is up before a full pipe" give_up_before_full_pipe
+try "a kill before a full pipe" write_after_kill
+
+# ---- Limits of the system --------------------------------------------------------------------------------------------
+
+write_under_limit() {
+    (ulimit -f 1 && write_and_keep file-too-large draw "${drawn[@]}" panel.list)
+}
+
+try "a limit of the files' size" write_under_limit
+
+# ---- Timeouts --------------------------------------------------------------------------------------------------------
+
+# Reads a list that never comes.
+wait_for_list() {
+    rm -f pipe
+    mkfifo pipe
+    write_and_keep timeout draw "${drawn[@]}" --timeout 0.2 - <>pipe
+}
+
+try "the time is up" write_and_keep timeout draw "${drawn[@]}" --timeout 0.2 "${slow[@]}"
+try "the time is up, quietly" write_and_keep timeout draw -q "${drawn[@]}" --timeout 0.2 "${slow[@]}"
+try "the time is up at once" write_and_keep timeout-at-once draw "${drawn[@]}" --timeout 0.001 "${slow[@]}"
+try "the time is up for reading" wait_for_list
+try "the time is up for the old list" write_and_keep timeout-repaint \
+    repaint "${repainted[@]}" --timeout 0.2 "${slow[@]}" panel.list
+try "the time is up for the new list" write_and_keep timeout-repaint \
+    repaint "${repainted[@]}" --timeout 0.2 -s 800x600 panel.list slow.list
+try "time enough" compare_tool draw-small draw -o drawn.png --timeout 1000 "${small[@]}"
+try "time enough for a fault" write_and_keep check-no-meaning draw "${drawn[@]}" --timeout 1000 no-meaning.list
+
+# ---- Progress --------------------------------------------------------------------------------------------------------
+
+# Runs the tool on a terminal, and gives what that shows: a line for each one that the tool writes, or writes again.
+run_on_terminal() {
+    local status=0
+    script -qec "$(printf '%q ' "${RUN[@]}" "$tool" "$@")" /dev/null </dev/null >shown || status=$?
+    tr '\r' '\n' <shown | sed '/^ *$/d' >lines
+    return "$status"
+}
+
+# Runs it until the time is up, on a terminal, and compares what that shows with a pattern for each line but the last.
+show_until_timeout() {
+    local status=0
+    run_on_terminal "${@:2}" --timeout 1.6 || status=$?
+    [ "$status" -eq 2 ] && has_no_part && grep -q "^$1$" lines && ! sed '$d' lines | grep -v "^$1$" &&
+        [ "$(tail -n 1 lines)" = "jokulvisp: $2: gave up after 1.6 seconds (--timeout)." ]
+}
+
+# Whether the line was erased, by as many blanks as it had characters, before the last words were shown.
+is_line_erased() {
+    local last
+    mapfile -t last < <(tr '\r' '\n' <shown | grep -B 2 'gave up')
+    [[ ${last[0]} == *'painted, 1 s' ]] && [[ ${last[1]} =~ ^\ +$ ]] && [ ${#last[0]} -eq ${#last[1]} ]
+}
+
+# Draws on a terminal row by row what is otherwise painted at once.
+draw_on_terminal() {
+    jokulvisp draw -q -o at-once.png --tags tags-at-once.png panel.list &&
+        run_on_terminal draw "${drawn[@]}" panel.list && cmp drawn.png at-once.png && cmp tags.png tags-at-once.png &&
+        diff -u <(sed -n '/^done/,/^The/p' "$here/expect/draw-panel") lines
+}
+
+# A fault is told as it is elsewhere.
+fail_on_terminal() {
+    local status=0
+    run_on_terminal draw "${drawn[@]}" no-meaning.list || status=$?
+    [ "$status" -eq 1 ] && diff -u <(sed '1,2d; /^-- standard error/,$d' "$here/expect/check-no-meaning") lines
+}
+
+try "progress of draw" show_until_timeout 'jokulvisp: draw: [0-9]* % of the rows are painted, 1 s' \
+    draw -o drawn.png "${slow[@]}"
+try "the line is erased" is_line_erased
+try "progress of repaint, the old list" show_until_timeout \
+    "jokulvisp: repaint: [0-9]* % of the old list's rows are painted, 1 s" repaint -o drawn.png "${slow[@]}" panel.list
+try "progress of repaint, the new list" show_until_timeout \
+    'jokulvisp: repaint: repainting, 1 s' repaint -o drawn.png -s 800x600 panel.list slow.list
+try "no progress where there is no terminal" write_and_keep timeout-later draw "${drawn[@]}" --timeout 1.3 "${slow[@]}"
+try "a picture is the same on a terminal" draw_on_terminal
+try "a fault on a terminal" fail_on_terminal
