@@ -4,6 +4,7 @@
 
 #include "answer.h"
 #include "frame.h"
+#include "message.h"
 #include "usage.h"
 
 /* The exit status of --exit-code for lists that draw, as that of other tools that compare. */
@@ -51,8 +52,8 @@ static void tell_rows(FILE *out, const frame *f, const order *o, jv_answer answe
         fputs("\nNo row is repainted: what draws in each row is the same in both lists.\n", out);
         return;
     }
-    fprintf(out, "\n%" PRIu32 " of %" PRIu32 " rows %s repainted", answer.count, o->height,
-            answer.count == 1 ? "is" : "are");
+    fprintf(out, "\n%" PRIu32 " of %" PRIu32 " %s %s repainted", answer.count, o->height,
+            plural(o->height, "row", "rows"), plural(answer.count, "is", "are"));
     print_rows(out, f, o->height);
     fputs(".\n", out);
 }

@@ -30,6 +30,7 @@ try "repaint, and back" repaint_and_paint repaint-back 480 272 no_ram_g edited.l
 try "repaint, the largest frame" repaint_and_paint repaint-large 800 600 no_ram_g panel.list edited.list
 try "repaint, the same list" repaint_and_paint repaint-same 480 272 no_ram_g panel.list panel.list
 try "repaint, all rows" repaint_and_paint repaint-all 120 30 icons.ram_g panel.list icons.list
+try "repaint, the only row" compare_tool repaint-only-row repaint -s 2x1 -o drawn.png panel.list small.list
 try "repaint, the picture that draw gives" repaint_like_draw
 try "repaint, the old list on standard input" \
     compare_tool repaint-panel repaint -o drawn.png - edited.list <panel.list
