@@ -1,5 +1,6 @@
 #include "order.h"
 
+#include <errno.h>
 #include <getopt.h>
 #include <inttypes.h>
 #include <stdio.h>
@@ -264,6 +265,18 @@ static bool is_among(const char *place, const char *const *others, int count)
     return false;
 }
 
+/* Told before any work is done, which may take long. */
+static bool is_place_found(const char *name)
+{
+    place p;
+    if (name == NULL || is_standard(name))
+        return true;
+    if (!find_place(name, &p))
+        return complain(name, "%s", strerror(errno));
+    leave_place(&p);
+    return true;
+}
+
 /* Nothing that is written may take the place of something else that is written, or of something that is read. */
 static bool are_places_apart(const order *o)
 {
@@ -286,7 +299,7 @@ static bool is_complete(const order *o)
         return refuse(o, NULL, "only one file can come from standard input");
     if (count_standard_outputs(o) > 1)
         return refuse(o, NULL, "only one file can go to standard output");
-    return are_places_apart(o);
+    return are_places_apart(o) && is_place_found(o->output) && is_place_found(o->tags) && is_place_found(o->marks);
 }
 
 bool read_order(order *o, const command *c, int count, char **arguments)

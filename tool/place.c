@@ -91,6 +91,10 @@ static bool is_in_proc(int folder)
 static bool look_at(place *p)
 {
     p->exists = fstatat(p->folder, p->last, &p->found, 0) == 0;
+    if (p->exists && S_ISDIR(p->found.st_mode)) {
+        errno = EISDIR;
+        return false;
+    }
     p->is_fixed = (p->exists && !S_ISREG(p->found.st_mode)) || is_in_proc(p->folder);
     return p->exists || errno == ENOENT;
 }

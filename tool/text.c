@@ -113,9 +113,9 @@ static bool starts_with(piece p, const char *wanted)
     return p.length >= strlen(wanted) && memcmp(p.start, wanted, strlen(wanted)) == 0;
 }
 
-/* The length of the remark that the rest of a text starts with, or 0 where it starts with none. It is closed unless it
-   is a C remark without an end, which takes all of the rest. */
-static size_t measure_remark(piece rest, bool *is_closed)
+/* The length of the comment that the rest of a text starts with, or 0 where it starts with none. It is closed unless it
+   is a C comment without an end, which takes all of the rest. */
+static size_t measure_comment(piece rest, bool *is_closed)
 {
     *is_closed = true;
     if (starts_with(rest, "#") || starts_with(rest, "//"))
@@ -137,14 +137,14 @@ static void blank_out(char *bytes, size_t length)
             bytes[n] = ' ';
 }
 
-/* Returns the number of the line with a remark that is never closed, or 0. */
-static uint32_t blank_remarks(char *bytes, size_t length)
+/* Returns the number of the line with a comment that is never closed, or 0. */
+static uint32_t blank_comments(char *bytes, size_t length)
 {
     uint32_t line = 1, open = 0;
     for (size_t n = 0; n < length; n++) {
         bool is_closed = true;
-        size_t remark = measure_remark((piece){ bytes + n, length - n }, &is_closed);
-        blank_out(bytes + n, remark);
+        size_t comment = measure_comment((piece){ bytes + n, length - n }, &is_closed);
+        blank_out(bytes + n, comment);
         open = is_closed ? open : line;
         line += bytes[n] == '\n' ? 1 : 0;
     }
@@ -154,7 +154,7 @@ static uint32_t blank_remarks(char *bytes, size_t length)
 list_text start_text(char *bytes, size_t length)
 {
     static const char byte_order_mark[] = "\xEF\xBB\xBF";
-    list_text t = { .bytes = bytes, .length = length, .open_remark = blank_remarks(bytes, length) };
+    list_text t = { .bytes = bytes, .length = length, .open_comment = blank_comments(bytes, length) };
     if (starts_with((piece){ bytes, length }, byte_order_mark))
         t.next = sizeof byte_order_mark - 1;
     return t;
@@ -237,7 +237,7 @@ static const char *find_line_fault(const list_text *t, piece line)
         return "the line is longer than 1000 bytes";
     if (find_character(line, '\0') < line.length)
         return "the line has a NUL byte in it";
-    if (t->line == t->open_remark)
+    if (t->line == t->open_comment)
         return "the comment that starts here with /* is never closed with */";
     piece rest = without_semicolon(line);
     if (find_character(rest, ';') < rest.length)

@@ -6,7 +6,7 @@
 #include <stddef.h>
 #include <stdint.h>
 
-/* A text as long as this holds the longest list with room for remarks, eight times over. A line has room for a command,
+/* A text as long as this holds the longest list with room for comments, eight times over. A line has room for a command,
    its offset and bits, all fields and some more, so that too many of them can be told. */
 enum { MOST_TEXT_BYTES = 1 << 20, MOST_LINE_BYTES = 1000, MOST_PIECES = 12 };
 
@@ -25,15 +25,15 @@ typedef struct {
     piece pieces[MOST_PIECES];
 } text_line;
 
-/* A text without its remarks, and how far it was read. */
+/* A text without its comments, and how far it was read. */
 typedef struct {
     const char *bytes;
     size_t length, next;
     uint32_t line;        /* the number of the line that was read last */
-    uint32_t open_remark; /* the number of the line with a remark that is never closed, or 0 */
+    uint32_t open_comment; /* the number of the line with a comment that is never closed, or 0 */
 } list_text;
 
-/* Makes ready to read a text. Puts blanks in place of its remarks, which are then gone. */
+/* Makes ready to read a text. Puts blanks in place of its comments, which are then gone. */
 list_text start_text(char *bytes, size_t length);
 
 /* Reads the next line. Returns false where there is none. */

@@ -6,7 +6,7 @@
 #include "usage.h"
 #include "word.h"
 
-static void print_remark(const finished_run *run)
+static void print_comment(const finished_run *run)
 {
     fputs("# ", stdout);
     print_number(stdout, run->answer);
@@ -24,8 +24,8 @@ static void find_targets(const display_list *list, bool is_target[MOST_LIST_WORD
     }
 }
 
-/* The offset of the word before which the remark stands, or the list's length for behind all of them. */
-static size_t place_of_remark(const finished_run *run)
+/* The offset of the word before which the comment stands, or the list's length for behind all of them. */
+static size_t place_of_comment(const finished_run *run)
 {
     uint32_t number = run->answer.number;
     if (has_word_at_fault(number))
@@ -38,14 +38,14 @@ static void print_words(const finished_run *run)
     bool is_target[MOST_LIST_WORDS] = { false };
     find_targets(run->list, is_target);
     for (size_t offset = 0; offset < run->list->length; offset += 4) {
-        if (offset == place_of_remark(run))
-            print_remark(run);
+        if (offset == place_of_comment(run))
+            print_comment(run);
         if (is_target[offset / 4])
             printf("at_%zu:\n", offset);
         print_word(stdout, run->list, offset);
     }
-    if (place_of_remark(run) == run->list->length)
-        print_remark(run);
+    if (place_of_comment(run) == run->list->length)
+        print_comment(run);
     const char *hint = find_hint(run->list);
     if (hint != NULL)
         printf("# Hint: %s\n", hint);

@@ -4,6 +4,8 @@
 lists=(panel.list edited.list)
 cksum panel.list edited.list icons.ram_g >sums
 try "no such folder" write_and_keep no-place repaint "${repainted[@]}" --tags missing/tags.png "${lists[@]}"
+try "no such folder, told before the list is read" \
+    write_and_keep no-place draw "${drawn[@]}" --tags missing/tags.png missing.list
 try "a picture without a name" write_and_keep nameless draw "${drawn[@]}" -o '' panel.list
 try "a file for a folder" write_and_keep file-for-folder draw "${drawn[@]}" --tags panel.list/tags.png panel.list
 try "over a folder" write_and_keep over-folder draw "${drawn[@]}" -o folder panel.list
