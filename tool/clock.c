@@ -126,7 +126,7 @@ static void give_up(void)
 }
 
 /* The timer and the clock need not agree to the millisecond. */
-static void tick(int number)
+HANDLER static void tick(int number)
 {
     int reason = errno;
     uint64_t now = elapsed();

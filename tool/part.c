@@ -43,7 +43,7 @@ void release_signals(const sigset_t *before)
 }
 
 /* The signal has its default action again, and is delivered when this returns. */
-static void end_by_signal(int number)
+HANDLER static void end_by_signal(int number)
 {
     remove_parts();
     raise(number);

@@ -7,6 +7,14 @@
 #include <stdbool.h>
 #include <sys/types.h>
 
+/* Stands before a signal handler. The emulator qemu 7.2 enters one with a stack that is not aligned as the compiler
+   takes for granted. */
+#ifdef __x86_64__
+#define HANDLER __attribute__((force_align_arg_pointer))
+#else
+#define HANDLER
+#endif
+
 enum { MOST_PART_NAME = 32 };
 
 /* Its folder must stay open as long as it exists. */
