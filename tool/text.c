@@ -106,7 +106,7 @@ bool read_number(piece p, int64_t *number)
     return has_digits(digits, base, 1);
 }
 
-/* ---- Remarks ---- */
+/* ---- Comments ---- */
 
 static bool starts_with(piece p, const char *wanted)
 {
