@@ -12,9 +12,13 @@ build() {
     "$CC" "${C_FLAGS[@]}" "${sources[@]/#"$here/tool/"/"$root/tool/"}" "${library[@]}" "${PNG_LIBS[@]}" -o "$name"
 }
 
+# Stands before what is run. A signal has its default action then, also if these tests were started such that it is
+# ignored, as SIGINT is in the background.
+with_signals=(env --default-signal=HUP,INT,PIPE,TERM)
+
 # Runs the tool.
 jokulvisp() {
-    "${RUN[@]}" "$tool" "$@"
+    "${with_signals[@]}" "${RUN[@]}" "$tool" "$@"
 }
 
 # Runs the command after the name and compares what it writes, and its exit status, with the file of that name under

@@ -44,6 +44,7 @@ write_to_closed_pipe() {
 }
 
 write_with_pipes_ignored() {
+    local with_signals=()
     (trap '' PIPE && write_to_closed_pipe broken-pipe)
 }
 
@@ -60,7 +61,7 @@ start_before_full_pipe() {
     exec 7<>pipe
     dd if=/dev/zero of=pipe bs=512 oflag=nonblock status=none 2>/dev/null || true
     echo 'as before' >tags.png
-    "${RUN[@]}" "$tool" draw "$@" -o pipe --tags tags.png "${small[@]}" >said 2>&1 &
+    "${with_signals[@]}" "${RUN[@]}" "$tool" draw "$@" -o pipe --tags tags.png "${small[@]}" >said 2>&1 &
     for _ in {1..100}; do
         ! compgen -G '.jokulvisp-*.part' >/dev/null || return 0
         sleep 0.05
@@ -79,10 +80,10 @@ end_before_full_pipe() {
 
 give_up_before_full_pipe() {
     local status=0
-    start_before_full_pipe --timeout 0.3 || return
+    start_before_full_pipe --timeout 2 || return
     wait $! || status=$?
     exec 7>&-
-    [ "$status" -eq 2 ] && diff -u <(echo 'jokulvisp: draw: gave up after 0.3 seconds (--timeout).') said &&
+    [ "$status" -eq 2 ] && diff -u <(echo 'jokulvisp: draw: gave up after 2 seconds (--timeout).') said &&
         [ "$(cat tags.png)" = 'as before' ] && has_no_part
 }
 
@@ -99,6 +100,7 @@ try "a closed pipe" write_to_closed_pipe closed-pipe
 try "a closed pipe, and no signal for it" write_with_pipes_ignored
 try "101 pipes that nobody reads" write_to_many_pipes
 try "SIGTERM before a full pipe" end_before_full_pipe TERM 143
+try "SIGINT before a full pipe" end_before_full_pipe INT 130
 try "SIGHUP before a full pipe" end_before_full_pipe HUP 129
 try "the time is up before a full pipe" give_up_before_full_pipe
 try "a kill before a full pipe" write_after_kill
@@ -176,7 +178,7 @@ try "the line is erased" is_line_erased
 try "progress of repaint, the old list" show_until_timeout \
     "jokulvisp: repaint: [0-9]* % of the old list's rows are painted, 1 s" repaint -o drawn.png "${slow[@]}" panel.list
 try "progress of repaint, the new list" show_until_timeout \
-    'jokulvisp: repaint: repainting, 1 s' repaint -o drawn.png -s 800x600 panel.list slow.list
+    'jokulvisp: repaint: repainting, 1 s' repaint -o drawn.png -s 800x100 panel.list slow.list
 try "no progress where there is no terminal" write_and_keep timeout-later draw "${drawn[@]}" --timeout 1.3 "${slow[@]}"
 try "a picture is the same on a terminal" draw_on_terminal
 try "a fault on a terminal" fail_on_terminal

@@ -37,7 +37,7 @@ b 640 old b, which is longer than the new one'
 # Runs the program, without what the shell says of a signal, and with the same name for each part that it tells of.
 run_outputs() {
     local status=0
-    { "${RUN[@]}" ./outputs "$@" 2>said || status=$?; } 2>/dev/null
+    { "${with_signals[@]}" "${RUN[@]}" ./outputs "$@" 2>said || status=$?; } 2>/dev/null
     sed 's/\.jokulvisp-[0-9a-f]\{6\}\./.jokulvisp-NNNNNN./' said >&2
     return "$status"
 }
@@ -135,6 +135,7 @@ try "the time is up while the places are taken" write_and_change outputs-written
 
 # Ignores the signal, as nohup does.
 ignore_and_write() {
+    local with_signals=()
     (trap '' HUP && write_and_change outputs-written fsync=2:HUP)
 }
 
