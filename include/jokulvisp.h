@@ -12,8 +12,8 @@
  *   - A buffer is a pointer and a length in bytes. The pointer may be NULL if the length is 0. The library uses a
  *     buffer during the call only. A const buffer is read; const buffers may overlap. A buffer that is not const is
  *     written and must not overlap any other buffer of the call.
- *   - The same arguments always return the same result. The library has no variables, allocates nothing and leaves
- *     errno alone. Any number of threads may call it at once.
+ *   - The result depends on the arguments and on the bytes in the buffers only. The library has no variables, allocates
+ *     nothing and leaves errno alone. Any number of threads may call it at once.
  */
 #ifndef JOKULVISP_H
 #define JOKULVISP_H
@@ -45,7 +45,7 @@ extern "C" {
 #define JV_MAX_END         32767
 
 #define JV_RING_BYTES      4096     /* the command ring */
-#define JV_MAX_WAITING     4092     /* of these, bytes that can wait at the same time */
+#define JV_MAX_WAITING     4092     /* bytes of it that can be waiting at once */
 #define JV_RAM_DL_BYTES    8192     /* RAM_DL, and the list that is shown */
 
 /* ---- Numbers -----------------------------------------------------------------------------------------------------
@@ -83,12 +83,12 @@ enum jv_ring_number {
     JV_RING_WAITING   = 30,
     JV_RING_SWAPPED   = 31,
 
-    /* The command at place is at fault. It had no effect, and the fault mark is set. */
+    /* Ring faults: the command at place had no effect, and the fault mark is set. */
     JV_RING_UNKNOWN   = 32,
     JV_RING_LIST_FULL = 34,
     JV_RING_BAD_RANGE = 35,
 
-    /* The call is refused. Nothing has changed. */
+    /* Ring refusals: nothing has changed. */
     JV_RING_BAD_MARK  = 33,
     JV_RING_FAULTY    = 36,
     JV_RING_BAD_RUN   = 37,
@@ -109,21 +109,21 @@ static inline const char *jv_number_text(uint32_t number)
     case JV_NO_COMMAND:     return "There is no such command.";
     case JV_NO_MEANING:     return "A field has an invalid value.";
     case JV_NOT_DRAWN:      return "The word is valid, but the library does not draw it yet.";
-    case JV_FIFTH_CALL:     return "CALL while four calls are open.";
-    case JV_NO_CALL:        return "RETURN while no call is open.";
-    case JV_SPLIT_TARGET:   return "CALL or JUMP to an offset that is not a multiple of 4.";
-    case JV_NO_PRIMITIVE:   return "Vertex while no primitive is begun.";
+    case JV_FIFTH_CALL:     return "A CALL was reached while four calls are open.";
+    case JV_NO_CALL:        return "A RETURN was reached while no call is open.";
+    case JV_SPLIT_TARGET:   return "A CALL or JUMP leads to an offset that is not a multiple of 4.";
+    case JV_NO_PRIMITIVE:   return "A vertex was reached while no primitive is begun.";
     case JV_NO_BITMAP:      return "The bitmap of the vertex cannot be drawn.";
     case JV_LIMIT_REACHED:  return "The step limit was reached before the list ended.";
     case JV_FAR_END:        return "An end of the line is too far away.";
     case JV_RING_WAITING:   return "The next command's parameters are not all in the ring yet.";
     case JV_RING_SWAPPED:   return "A swap was made: there is a new list to show.";
-    case JV_RING_UNKNOWN:   return "There is no such command of the ring.";
+    case JV_RING_UNKNOWN:   return "There is no such ring command.";
     case JV_RING_BAD_MARK:  return "A mark is out of range or not a multiple of 4.";
     case JV_RING_LIST_FULL: return "RAM_DL has no room for the word, or for all that APPEND copies.";
     case JV_RING_BAD_RANGE: return "A range of bytes is not inside RAM_G, or APPEND's count is not a multiple of 4.";
     case JV_RING_FAULTY:    return "The fault mark is set: reset the ring first.";
-    case JV_RING_BAD_RUN:   return "A buffer of the ring has the wrong length.";
+    case JV_RING_BAD_RUN:   return "A buffer has the wrong length.";
     case JV_RING_NO_ROOM:   return "The ring has no room for all of the words.";
     default:                return "Unknown number.";
     }
@@ -131,8 +131,8 @@ static inline const char *jv_number_text(uint32_t number)
 
 /* ---- Commands ----------------------------------------------------------------------------------------------------
  *
- * A command is the top byte of its word. The two vertices have only two top bits, 01 and 10, and fields in the six bits
- * below; each goes by the byte of those two bits and zeros.
+ * A command is the top byte of its word. VERTEX2F and VERTEX2II are known by their two top bits alone, 01 and 10; the
+ * six bits below belong to fields. Their command is the top byte with those six bits 0.
  */
 enum jv_command {
     JV_DISPLAY            = 0x00,
@@ -188,8 +188,9 @@ enum jv_command {
 /* ---- Fields ------------------------------------------------------------------------------------------------------
  *
  * The fields of each command, high bits first. The first one is a in the calls below, the second b, and so on to e.
- * Each line gives a field's name, its highest and lowest bit, 's' if it is signed, and in square brackets the values
- * that are valid: a range, or one of the enums below the table. Without brackets every value is valid.
+ * After each field's name come its highest and lowest bit, or one number for a single bit, 's' if it is signed, and in
+ * square brackets the valid values: a range, or an enum, where [test] is enum jv_test. Without brackets every value is
+ * valid.
  *
  *   DISPLAY               none
  *   BITMAP_SOURCE         addr 21..0
@@ -205,14 +206,14 @@ enum jv_command {
  *   BLEND_FUNC            src 5..3 [factor], dst 2..0 [factor]
  *   STENCIL_OP            sfail 5..3 [action], spass 2..0 [action]
  *   POINT_SIZE            size 12..0                               a radius, in sixteenths of a pixel
- *   LINE_WIDTH            width 11..0                              from the middle outwards, in sixteenths of a pixel
+ *   LINE_WIDTH            width 11..0                              half the width of a line, in sixteenths of a pixel
  *   CLEAR_COLOR_A         alpha 7..0
  *   COLOR_A               alpha 7..0
  *   CLEAR_STENCIL         s 7..0
  *   CLEAR_TAG             t 7..0
  *   STENCIL_MASK          mask 7..0
  *   TAG_MASK              mask 0
- *   BITMAP_TRANSFORM_A    a 16..0 s                                256 stands for one, as in B to F
+ *   BITMAP_TRANSFORM_A    a 16..0 s                                256 is 1.0, as in B to F
  *   BITMAP_TRANSFORM_B    b 16..0 s
  *   BITMAP_TRANSFORM_C    c 23..0 s
  *   BITMAP_TRANSFORM_D    d 16..0 s
@@ -242,7 +243,8 @@ enum jv_command {
  *
  * Bits that belong to no field are reserved: reading ignores them, writing sets them to 0.
  *
- * A signed field is a 32-bit two's complement number, -16 is 0xFFFFFFF0: pass (uint32_t)-16, read (int32_t)w.a.
+ * A signed field is passed and returned in 32-bit two's complement: -16 is 0xFFFFFFF0. Pass (uint32_t)-16, and read
+ * (int32_t)w.a.
  */
 
 enum jv_test {
@@ -333,7 +335,7 @@ typedef struct { uint32_t number, bits; } jv_bits;
  *   command:  an enum jv_command; 0 unless number is JV_DONE
  *   a to e:   its fields; 0 unless number is JV_DONE
  *
- * The word is judged alone. Whether a list may use it where it stands, and whether it can be drawn, is for jv_check.
+ * Only the word itself is checked. jv_check says whether a list can use and draw it.
  *
  *   jv_read_word(0x40F00110)  returns  { 0, JV_VERTEX2F, 480, 272, 0, 0, 0 }
  *   jv_read_word(0x1C801800)  returns  { 12, 0, 0, 0, 0, 0, 0 }: the scissor is 2049 wide
@@ -346,7 +348,7 @@ jv_word jv_read_word(uint32_t bits);
  *
  * Returns
  *   number:  JV_DONE        jv_read_word reads back the same command and fields
- *            JV_NO_COMMAND  there is no such command
+ *            JV_NO_COMMAND  there is no such command, whatever the fields are
  *            JV_NO_MEANING  a field has an invalid value or does not fit its bits, or a field that the command does not
  *                           have is not 0
  *   bits:    the word; 0 unless number is JV_DONE
@@ -363,32 +365,34 @@ jv_bits jv_write_word(uint32_t command, uint32_t a, uint32_t b, uint32_t c, uint
  * JUMP lead. It ends at DISPLAY.
  *
  * BITMAPS and POINTS draw at every vertex. RECTS and LINES draw at every second vertex, with the vertex before it.
- * LINE_STRIP draws a line at every vertex but the first, from the vertex before it. The vertex format and the
- * translation count for each vertex where it stands; all other settings count where the second vertex stands. BEGIN and
- * END drop a first vertex that has no second one yet. Saving and restoring a context keep it.
+ * LINE_STRIP draws a line at every vertex but the first, from the vertex before it. Each vertex is placed by the vertex
+ * format and the translation at that vertex. A rectangle or a line uses all other settings as they are at its second
+ * vertex. BEGIN and END drop a first vertex that has no second one yet. Saving and restoring a context keep it.
  *
  * Lines have round ends. A line covers pixel (x, y) exactly if the point (16 * x, 16 * y), in sixteenths of a pixel, is
  * no further from the segment between its ends than the line width.
  */
 
-/* What a call found out about a list, or about one of two lists. */
+/* What a call returns that runs a list, or two. */
 typedef struct { uint32_t number, list, place, count; } jv_answer;
 
 /* Checks whether a list draws.
  *
- * list:           read.
- * ram_g:          RAM_G. Only its length counts here: a bitmap must lie inside it.
- * width, height:  the frame, in pixels.
- * limit:          the step limit: how many words the run may fetch.
+ * Reads list. Of RAM_G only the length is used.
+ *
+ * list:           4 to 8192 bytes, a multiple of 4.
+ * ram_g:          RAM_G, at most 1048576 bytes. The cells of bitmaps must be wholly inside it.
+ * width, height:  the frame in pixels, 1 to 800 by 1 to 600.
+ * limit:          the step limit: how many words the run may fetch, 1 to 65536.
  *
  * Returns
  *   number:  JV_DONE           the list draws: its run reaches DISPLAY within the step limit
  *            JV_BAD_FRAME, JV_BAD_LIST, JV_BAD_RAM_G, JV_BAD_LIMIT
- *                              the argument is out of range. They are tested in this order, and nothing was run
+ *                              the argument is not as said above. They are tested in this order, and nothing was run
  *            a fault number    the run stopped. Each step tests for these in this order:
  *              JV_LIMIT_REACHED  the run has fetched as many words as the step limit allows
- *              JV_PAST_END       the next word would be past the end of the list: DISPLAY is missing, or a CALL or JUMP
- *                                leads past the end
+ *              JV_PAST_END       the next word would be at or past the end of the list: DISPLAY is missing, or a CALL,
+ *                                JUMP or RETURN leads there
  *              JV_NO_COMMAND, JV_NO_MEANING
  *                                jv_read_word refuses the word
  *              JV_NOT_DRAWN      BEGIN with an EDGE_STRIP; BITMAP_LAYOUT with a format other than ARGB1555, L8 and
@@ -397,12 +401,13 @@ typedef struct { uint32_t number, list, place, count; } jv_answer;
  *              JV_FIFTH_CALL     CALL while four calls are open
  *              JV_NO_CALL        RETURN while no call is open
  *              JV_SPLIT_TARGET   CALL or JUMP to an offset that is not a multiple of 4
- *              JV_NO_PRIMITIVE   a vertex before BEGIN or after END
- *              JV_NO_BITMAP      a vertex of BITMAPS, and its handle has had no BITMAP_SOURCE, BITMAP_LAYOUT or
- *                                BITMAP_SIZE in this run; or its stride, layout height, width or height is 0, high bits
- *                                included; or its cell is not inside RAM_G; or its format has two bytes a pixel, and
- *                                its source or stride is odd. VERTEX2II has handle and cell as fields, VERTEX2F uses
- *                                those of BITMAP_HANDLE and CELL
+ *              JV_NO_PRIMITIVE   a vertex while no primitive is begun: before the first BEGIN, or after an END
+ *              JV_NO_BITMAP      a vertex of BITMAPS, and one of these is true of its handle: BITMAP_SOURCE,
+ *                                BITMAP_LAYOUT or BITMAP_SIZE has not set it in this run; its stride or layout height
+ *                                (BITMAP_LAYOUT), or its width or height (BITMAP_SIZE), is 0, high bits included; its
+ *                                cell is not wholly inside RAM_G; its format has two bytes a pixel, and its source or
+ *                                stride is odd. VERTEX2II has handle and cell as fields, VERTEX2F uses those of
+ *                                BITMAP_HANDLE and CELL
  *              JV_FAR_END        a vertex that completes a line, and x or y of one of its ends, after format and
  *                                translation, is outside -32768 to 32767 sixteenths of a pixel
  *   list:    0
@@ -430,7 +435,7 @@ jv_answer jv_check(const uint8_t *list, size_t list_length, const uint8_t *ram_g
  * Pixels go from left to right, rows from top to bottom, without gaps: pixel (x, y) of a frame has its red at
  * 3 * (y * width + x) and its tag at y * width + x.
  *
- * Drawing keeps what the list draws on the stack, less than 200,000 bytes.
+ * jv_paint, jv_paint_row and jv_repaint use less than 200,000 bytes of stack.
  */
 
 /* Draws a frame.
@@ -441,9 +446,9 @@ jv_answer jv_check(const uint8_t *list, size_t list_length, const uint8_t *ram_g
  * picture:                            3 * width * height bytes.
  * tags:                               width * height bytes.
  *
- * Returns what jv_check returns, and JV_BAD_FRAME also if picture or tags have another length. With JV_DONE every byte
- * of both is written; what they held before plays no part, because colour, tag, alpha and stencil all start at 0. With
- * every other number both are unchanged.
+ * Returns what jv_check returns, and JV_BAD_FRAME, which is tested first, also if picture or tags have the wrong
+ * length. With JV_DONE every byte of both is written; what they held before plays no part, because colour, tag, alpha
+ * and stencil all start at 0. With every other number both are unchanged.
  *
  *   static uint8_t picture[3 * 480 * 272], tags[480 * 272];
  *   jv_paint(clear_screen, 12, NULL, 0, 480, 272, 65536, picture, sizeof picture, tags, sizeof tags)
@@ -466,7 +471,7 @@ jv_answer jv_paint(const uint8_t *list, size_t list_length, const uint8_t *ram_g
  * picture:                            3 * width bytes.
  * tags:                               width bytes.
  *
- * Returns what jv_paint returns, and JV_BAD_FRAME also if the frame has no such row.
+ * Returns what jv_paint returns, and JV_BAD_FRAME also if row is not below height.
  *
  *   uint8_t picture[3 * 480], tags[480];
  *   jv_paint_row(clear_screen, 12, NULL, 0, 480, 272, 271, 65536, picture, sizeof picture, tags, sizeof tags)
@@ -497,22 +502,23 @@ jv_answer jv_paint_row(const uint8_t *list, size_t list_length, const uint8_t *r
  *   the others   what it is and where it is, scissor, colour, alpha, alpha test, stencil test, stencil actions, blend
  *                factors, masks and tag. A point is at its centre, with its size. A rectangle is between its corners,
  *                in either order, with its line width. A line goes from its first end to its second, in this order,
- *                with its line width. All these are in sixteenths of a pixel, after the translation. A bitmap is at its
- *                top left pixel, with its size, where its cell starts in RAM_G, format, stride and layout height. A
- *                line of LINES and a line of LINE_STRIP differ.
+ *                with its line width. All these are in sixteenths of a pixel, after the translation. A bitmap has its
+ *                top left pixel, its drawn width and height, the start of its cell in RAM_G, its format, stride and
+ *                layout height. A line of LINES and a line of LINE_STRIP differ.
  *
  * So a changed word marks the rows of everything that draws with the value it sets, however much later in the list. A
- * word that nothing draws with marks no row: a NOP, a setting that had this value already, another handle with the same
- * cell. A value that differs marks its rows even if the pixels come out equal: the reference of a test that always
- * passes, or two shapes side by side that are drawn in the other order.
+ * word that nothing draws with marks no row: a NOP, a setting that had this value already, another handle that draws
+ * the same bytes in the same way. A value that differs marks its rows even if the pixels come out equal: the reference
+ * of a test that always passes, or two shapes side by side that are drawn in the other order.
  *
  * Returns
- *   number:  JV_DONE           both lists draw. Every mark is 1 or 0. Marked rows have the picture and the tags that
- *                              jv_paint draws for the new list. Unmarked rows are unchanged; both lists draw the same
- *                              in them. So a frame that held the old list's picture and tags now holds the new list's
+ *   number:  JV_DONE           both lists draw. A mark is 1 for a marked row and 0 for any other. Marked rows have the
+ *                              picture and the tags that jv_paint draws for the new list. Other rows are unchanged;
+ *                              both lists draw the same in them. So a frame that held the old list's picture and tags
+ *                              now holds the new list's
  *            JV_BAD_FRAME, JV_BAD_LIST, JV_BAD_RAM_G, JV_BAD_LIMIT
- *                              the argument is out of range, tested in this order, JV_BAD_LIST first for the old list.
- *                              JV_BAD_FRAME also if picture, tags or marks have another length
+ *                              the argument is not as said in jv_check, tested in this order, JV_BAD_LIST first for
+ *                              the old list. JV_BAD_FRAME also if picture, tags or marks have the wrong length
  *            a fault number    the old list does not draw, or it does and the new list does not
  *   list:    with JV_BAD_LIST and with a fault number, which list it is: 1 the old one, 2 the new one. Otherwise 0
  *   place:   with a fault number, as in jv_check. Otherwise 0
@@ -556,8 +562,8 @@ jv_answer jv_repaint(const uint8_t *old_list, size_t old_list_length, const uint
  *   shown    the list that was shown last, 8192 bytes: what jv_check and jv_paint read
  *   ram_g    RAM_G, 0 to 1048576 bytes
  *
- * Words have their lowest byte first. Four marks say how far the ring is. They belong to the caller too: pass each call
- * the marks that the call before it returned.
+ * Words have their lowest byte first. Four marks are the state of the ring. They belong to the caller too: pass each
+ * call the marks that the call before it returned.
  *
  *   read     byte offset in the ring of the next command: 0 to 4092, a multiple of 4
  *   write    byte offset in the ring of the host's next word: 0 to 4092, a multiple of 4. The words from read up to
@@ -573,18 +579,17 @@ jv_answer jv_repaint(const uint8_t *old_list, size_t old_list_length, const uint
  *   0xFFFFFF01   SWAP                              copies RAM_DL to shown, all of it; RAM_DL and offset stay
  *   0xFFFFFF1B   MEMSET    address, value, count   sets count bytes of RAM_G to the low byte of value
  *   0xFFFFFF1C   MEMZERO   address, count          sets count bytes of RAM_G to 0
- *   0xFFFFFF1D   MEMCPY    target, source, count   copies count bytes of RAM_G from source to target, which may overlap
+ *   0xFFFFFF1D   MEMCPY    target, source, count   copies count bytes of RAM_G from source to target, as memmove does
  *   0xFFFFFF1E   APPEND    address, count          copies count bytes of RAM_G to RAM_DL, and offset goes up by count
  *   0xFFFFFF32   COLDSTART                         does nothing yet
  *
- * Addresses and counts are in bytes. Addresses need not be multiples of 4.
+ * Addresses are byte offsets in RAM_G and need not be multiples of 4. Counts are in bytes.
  */
 
 /* What a call of the ring returns: the result, and the four marks after it.
  *
  *   number:    an enum jv_ring_number
- *   place:     with JV_RING_UNKNOWN, JV_RING_LIST_FULL and JV_RING_BAD_RANGE, the byte offset in the ring of the
- *              command at fault. Otherwise 0
+ *   place:     with a ring fault, the byte offset in the ring of the command at fault. Otherwise 0
  *   count:     how many commands a run took; each word that goes to RAM_DL is one. A command at fault and a command
  *              that lacks parameters do not count. 0 if nothing was run
  *   reported:  what the panel shows as the read mark (REG_CMD_READ): 0xFFF if fault is not 0, otherwise read
@@ -596,39 +601,38 @@ typedef struct {
 
 /* Runs the ring: takes the waiting commands one after the other, until there is a reason to stop.
  *
- * Reads ring. Reads and writes ram_dl, shown and ram_g.
+ * Reads ring. Reads and writes ram_dl and ram_g. Writes shown.
  *
  * read, write, offset, fault: the four marks.
  *
  * Returns, tested in this order,
- *   number:  JV_RING_BAD_RUN    a buffer has the wrong length
+ *   number:  JV_RING_BAD_RUN    ring is not 4096 bytes long, ram_dl or shown not 8192, or ram_g longer than 1048576
  *            JV_RING_BAD_MARK   read, write or offset is out of range or not a multiple of 4
  *            JV_RING_FAULTY     fault is not 0
  *   and then, at each command,
  *            JV_RING_IDLE       no command is waiting any more
  *            JV_RING_UNKNOWN    the top byte is 0xFF, and it is not one of the commands above
- *            JV_RING_WAITING    not all of its parameters are in the ring. Write the rest; the next run starts with
- *                               this command again
+ *            JV_RING_WAITING    not all of its parameters are in the ring. read stays at it, and fault stays 0. Write
+ *                               the rest; the next run starts with this command again
  *            JV_RING_BAD_RANGE  address plus count (for MEMCPY target plus count, or source plus count) is above the
  *                               length of RAM_G. The sum does not wrap, and a count of 0 is tested too. Or APPEND's
  *                               count is not a multiple of 4
  *            JV_RING_LIST_FULL  RAM_DL has no room for the word, or for all that APPEND copies
- *            JV_RING_SWAPPED    it was SWAP, and it was taken. The next run takes what waits behind it
+ *            JV_RING_SWAPPED    SWAP was taken. The next run starts with the command after it
  *
- * A command that is taken moves read past it and its parameters. DLSTART, APPEND and words that go to RAM_DL move
- * offset. write stays. At most 1023 words wait, so a run takes at most 1023 commands.
+ * A command that is taken moves read past it and its parameters, from the end of the ring to its start. DLSTART, APPEND
+ * and words that go to RAM_DL move offset. write stays. At most 1023 words wait, so a run takes at most 1023 commands.
  *
- * JV_RING_UNKNOWN, JV_RING_BAD_RANGE and JV_RING_LIST_FULL set fault to 1. The command at fault has no effect, and read
- * stays at it; the commands before it keep their effect. From then on jv_ring_run and jv_ring_write return
- * JV_RING_FAULTY until jv_ring_reset.
+ * A ring fault sets fault to 1. The command at fault has no effect, and read stays at it; the commands before it keep
+ * their effect. From then on jv_ring_run and jv_ring_write return JV_RING_FAULTY until jv_ring_reset.
  *
- * With JV_RING_BAD_RUN, JV_RING_BAD_MARK and JV_RING_FAULTY all buffers are unchanged, and the marks are those passed.
+ * With a ring refusal all buffers are unchanged, and the marks are those passed.
  */
 jv_ring jv_ring_run(const uint8_t *ring, size_t ring_length, uint8_t *ram_dl, size_t ram_dl_length, uint8_t *shown,
                     size_t shown_length, uint8_t *ram_g, size_t ram_g_length, uint32_t read, uint32_t write,
                     uint32_t offset, uint32_t fault);
 
-/* Writes the host's words into the ring, behind those that are waiting.
+/* Writes the host's words into the ring, after those that are waiting.
  *
  * Reads words. Writes ring.
  *
@@ -640,11 +644,12 @@ jv_ring jv_ring_run(const uint8_t *ring, size_t ring_length, uint8_t *ram_dl, si
  *            JV_RING_BAD_MARK  read, write or offset is out of range or not a multiple of 4
  *            JV_RING_FAULTY    fault is not 0
  *            JV_RING_NO_ROOM   words is longer than the room: 4092 bytes, less those that are waiting
- *            JV_RING_IDLE      the words are in the ring, from the old write mark on, and write has moved behind them.
- *                              The other bytes of the ring and the other marks are unchanged
+ *            JV_RING_IDLE      the words are in the ring, from the old write mark on and from the end of the ring to
+ *                              its start, and write has moved past them. The other bytes of the ring and the other
+ *                              marks are unchanged
  *   place, count:  0
  *
- * With every number but JV_RING_IDLE the ring is unchanged, and the marks are those passed.
+ * With a ring refusal the ring is unchanged, and the marks are those passed.
  */
 jv_ring jv_ring_write(uint8_t *ring, size_t ring_length, const uint8_t *words, size_t words_length, uint32_t read,
                       uint32_t write, uint32_t offset, uint32_t fault);

@@ -52,7 +52,7 @@ static bool judge_label(assembly *a, piece name)
         return blame(&a->faults, "'%s' is not a label: use a letter or _, then letters, digits and _", show(name).text);
     const label *first = find_label(&a->labels, name);
     if (first->line != a->faults.line)
-        return blame(&a->faults, "label %s is in line %" PRIu32 " already", show(name).text, first->line);
+        return blame(&a->faults, "label %s is already defined in line %" PRIu32, show(name).text, first->line);
     if (first->word == a->words)
         return blame(&a->faults, "no word follows label %s", show(name).text);
     return true;
@@ -62,7 +62,7 @@ static bool judge_label(assembly *a, piece name)
 static bool add_word(assembly *a, uint32_t bits)
 {
     if (a->words_met == MOST_LIST_WORDS + 1)
-        return blame(&a->faults, "this word is one too many: a list has at most %d", MOST_LIST_WORDS);
+        return blame(&a->faults, "too many words: a list has at most %d", MOST_LIST_WORDS);
     if (a->words_met <= MOST_LIST_WORDS)
         append_word(&a->list, bits);
     return true;
@@ -75,7 +75,7 @@ static bool assemble_instruction(assembly *a, const text_line *line)
     if (!make_word(&a->faults, &a->labels, line, &bits) || !add_word(a, bits))
         return false;
     if (line->has_bits && line->bits != bits)
-        warn(&a->faults, "warning: the bits %08" PRIX32 " beside it are not those of this command (%08" PRIX32 ").",
+        warn(&a->faults, "warning: the line has the bits %08" PRIX32 ", but its command is %08" PRIX32 ", which is written",
              line->bits, bits);
     return true;
 }
@@ -108,14 +108,8 @@ static bool write_list(const display_list *list, const char *name)
 static void print_success(FILE *out, const char *output, const display_list *list)
 {
     size_t words = list->length / 4;
-    fprintf(out, "done %zu\n%zu %s, %zu bytes, %s ", words, words, plural(words, "word", "words"), list->length,
-            plural(words, "is", "are"));
-    if (is_standard_output(output)) {
-        fputs("on standard output", out);
-    } else {
-        fputs("in ", out);
-        print_name(out, output);
-    }
+    fprintf(out, "done %zu\nWrote %zu %s (%zu bytes) to ", words, words, plural(words, "word", "words"), list->length);
+    print_name(out, is_standard_output(output) ? "standard output" : output);
     fputs(".\n", out);
 }
 
@@ -132,7 +126,7 @@ static bool is_text_good(assembly *a, list_text t)
     assemble_lines(a, t);
     tell_rest(&a->faults);
     if (a->words == 0 && a->faults.count == 0)
-        complain(a->faults.name, "there is no command in it");
+        complain(a->faults.name, "the text has no command");
     return a->words > 0 && a->faults.count == 0;
 }
 

@@ -53,8 +53,8 @@ static const command commands[] = {
         .usage = "draw " RUN_OPTIONS " [-q]\n"
                  "                      [--tags TAGS.png] [--timeout SECONDS] -o PICTURE.png LIST",
         .summary = "draw a list as a PNG picture, and its touch areas as another",
-        .about = "Draws a display list as a PNG picture, and answers as check does. If the list\n"
-                 "does not draw, no file changes.\n"
+        .about = "Draws a display list as a PNG picture, and prints the same answer as check. If\n"
+                 "the list does not draw, no file changes.\n"
                  "\n" ABOUT_ANSWERS "\n" ABOUT_LISTS,
         .examples = "  jokulvisp draw -o panel.png panel.list\n"
                     "  jokulvisp draw -g icons.ram_g --tags touch.png -o panel.png panel.list\n",
@@ -76,8 +76,8 @@ static const command commands[] = {
                  "If one of the lists does not draw, no file changes.\n"
                  "\n"
                  "The answer is 'done COUNT', with the number of rows repainted, and which rows\n"
-                 "these are. If a list does not draw, the answer is as that of check, and names\n"
-                 "the list.\n"
+                 "these are. If a list does not draw, the answer is that of check, with the list's\n"
+                 "name.\n"
                  "\n" ABOUT_LISTS,
         .examples = "  jokulvisp repaint -o panel.png before.list after.list\n"
                     "  jokulvisp repaint --marks marks.png -o panel.png before.list after.list\n",
@@ -98,8 +98,8 @@ static const command commands[] = {
                  "                       [--exit-code] LIST",
         .summary = "print a list as text, word by word",
         .about = "Prints a display list as text, one line for each word: its offset, its bits, the\n"
-                 "command, and the fields by name. What check says of the list is in it as a\n"
-                 "comment. assemble turns this text into the same list again.\n"
+                 "command, and the fields by name. The answer of check is included as a comment.\n"
+                 "assemble turns this text into the same list again.\n"
                  "\n" ABOUT_LISTS,
         .examples = "  jokulvisp words panel.list\n"
                     "  jokulvisp words panel.list >panel.txt\n",
@@ -134,8 +134,8 @@ static const command commands[] = {
                  "Offset and bits before a command, as words prints them, are skipped. If the bits\n"
                  "are not those of the command, there is a warning.\n"
                  "\n"
-                 "If the text is wrong, each wrong line is named on standard error, and no list is\n"
-                 "written.\n",
+                 "If the text has errors, up to 20 wrong lines are reported on standard error, and\n"
+                 "no list is written.\n",
         .examples = "  jokulvisp assemble -o panel.list panel.txt\n"
                     "  jokulvisp words panel.list | sed 's/red=16/red=32/' |\n"
                     "      jokulvisp assemble -q -o redder.list -\n",
@@ -145,12 +145,12 @@ static const command commands[] = {
 };
 
 static const option_names options[] = {
-    { 's', "size", true, "WIDTHxHEIGHT", "the frame in pixels, " SIZE_RANGE ";\n480x272 if not given" },
+    { 's', "size", true, "WIDTHxHEIGHT", "the frame in pixels, " SIZE_RANGE ";\nthe default is 480x272" },
     { 'g', "ram-g", true, "RAM_G",
       "a file with the bytes of the graphics memory, at\n"
       "most " TEXT_OF(JV_MAX_RAM_G_BYTES) "; without it no bitmap can be drawn" },
     { 'l', "limit", true, "LIMIT",
-      "the step limit: how many words the run may fetch,\n" LIMIT_RANGE "; " TEXT_OF(JV_MAX_LIMIT) " if not given" },
+      "the step limit: how many words the run may fetch,\n" LIMIT_RANGE "; the default is " TEXT_OF(JV_MAX_LIMIT) },
     { 'o', "output", true, "FILE",
       "the file to write; '-' is standard output, and\n"
       "then the answer goes to standard error" },
@@ -161,10 +161,10 @@ static const option_names options[] = {
       "also write the picture with a strip on its left,\n"
       "16 pixels wide, bright beside each repainted row" },
     { 'T', "timeout", false, "SECONDS",
-      "give up after so many seconds, " TIMEOUT_RANGE ",\n"
-      "and write no file; never if not given" },
-    { 'e', "exit-code", false, NULL, "say more by the exit status, see below" },
-    { 'q', "quiet", true, NULL, "print no answer and no warnings, only errors" },
+      "give up after this many seconds, " TIMEOUT_RANGE ",\n"
+      "and write no file; the default is never" },
+    { 'e', "exit-code", false, NULL, "report the result in the exit status, see below" },
+    { 'q', "quiet", true, NULL, "print only errors: no answer, warnings, progress" },
     { 'h', "help", true, NULL, "print this" },
 };
 

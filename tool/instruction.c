@@ -223,10 +223,10 @@ static bool is_reserved_apart(faults *f, const given_fields *given)
     uint32_t reserved = (uint32_t)given->reserved;
     for (unsigned n = 0; n < count_fields(given->names); n++)
         if ((reserved & mask_of(&given->names->field[n])) != 0)
-            return blame(f, "reserved 0x%" PRIX32 " has bits of the field %s", reserved,
+            return blame(f, "reserved 0x%" PRIX32 " overlaps the field %s", reserved,
                          given->names->field[n].name);
     if ((reserved & command_mask(given->names)) != 0)
-        return blame(f, "reserved 0x%" PRIX32 " has bits of the command itself", reserved);
+        return blame(f, "reserved 0x%" PRIX32 " overlaps the bits of the command", reserved);
     return true;
 }
 

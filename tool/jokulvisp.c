@@ -49,7 +49,7 @@ static int run(int count, char **arguments)
     if (asks_for_help(first))
         return run_help(count - 1, arguments + 1);
     if (asks_for_version(first))
-        return count == 1 ? print_version() : explain_usage(NULL, first, "nothing can follow");
+        return count == 1 ? print_version() : explain_usage(NULL, first, "takes no arguments");
     return explain_usage(NULL, first, first[0] == '-' ? "the command must come first" : "no such command");
 }
 

@@ -191,7 +191,7 @@ static bool refuse_unknown(const order *o, const char *argument)
         return refuse(o, letter, "no such option");
     bool is_start = starts_option(o->command, argument, length);
     return refuse(o, show_bytes(argument, length).text,
-                  is_start ? "more than one option starts like this" : "no such option");
+                  is_start ? "is short for more than one option" : "no such option");
 }
 
 static bool refuse_use(const order *o, const option_names *option)
@@ -199,7 +199,7 @@ static bool refuse_use(const order *o, const option_names *option)
     char what[MOST_REASON], why[MOST_REASON] = "takes no value";
     snprintf(what, sizeof what, "--%s", option->name);
     if (option->value != NULL)
-        snprintf(why, sizeof why, "%s must follow", option->value);
+        snprintf(why, sizeof why, "needs a value: %s", option->value);
     return refuse(o, what, why);
 }
 
@@ -284,9 +284,9 @@ static bool are_places_apart(const order *o)
     const char *const read[] = { o->files[0], o->files[1], o->ram_g };
     for (int n = 0; n < 3; n++) {
         if (is_among(written[n], written, n))
-            return refuse(o, written[n], "two files cannot go to the same place");
+            return refuse(o, written[n], "two outputs name the same file");
         if (is_among(written[n], read, 3))
-            return refuse(o, written[n], "this file is read, and would be overwritten");
+            return refuse(o, written[n], "is an input file, and would be overwritten");
     }
     return true;
 }
@@ -294,11 +294,11 @@ static bool are_places_apart(const order *o)
 static bool is_complete(const order *o)
 {
     if (takes_option(o->command, 'o') && o->output == NULL)
-        return refuse(o, NULL, "-o must say which file to write");
+        return refuse(o, NULL, "-o FILE is required");
     if (count_standard_inputs(o) > 1)
-        return refuse(o, NULL, "only one file can come from standard input");
+        return refuse(o, NULL, "only one file can be standard input");
     if (count_standard_outputs(o) > 1)
-        return refuse(o, NULL, "only one file can go to standard output");
+        return refuse(o, NULL, "only one file can be standard output");
     return are_places_apart(o) && is_place_found(o->output) && is_place_found(o->tags) && is_place_found(o->marks);
 }
 

@@ -165,7 +165,7 @@ static bool write_all_of(manner m, target *targets, size_t count)
 
 static bool tell_loss(const target *t)
 {
-    return complain(spoken(t), "has been changed already, and its old content is lost");
+    return complain(spoken(t), "has already been overwritten, and its old content is lost");
 }
 
 static bool write_over(target *t)
@@ -206,12 +206,12 @@ static bool take_place(target *t, bool is_last)
 static bool restore(target *t)
 {
     if (!t->place.exists)
-        return unlinkat(t->place.folder, t->place.last, 0) == 0 || complain(spoken(t), "has been written already");
+        return unlinkat(t->place.folder, t->place.last, 0) == 0 || complain(spoken(t), "has already been written");
     if (t->kept == NULL)
         return tell_loss(t);
     if (move_part(&t->kept, t->place.last))
         return true;
-    complain(spoken(t), "has been replaced already; its old content is beside it in %s", t->kept->name);
+    complain(spoken(t), "has already been replaced; its old content is in %s in the same folder", t->kept->name);
     forget_part(&t->kept);
     return false;
 }
@@ -219,7 +219,7 @@ static bool restore(target *t)
 static void give_back_place(target *t)
 {
     if (t->manner == AS_STREAM)
-        complain(spoken(t), "has been written already");
+        complain(spoken(t), "has already been written");
     else if (t->manner == BESIDE)
         restore(t);
     else if (!put_back(&t->over))
@@ -251,7 +251,7 @@ static bool finish(target *t)
     remove_part(&t->kept);
     bool is_finished = t->manner == AS_STREAM || (t->manner == BESIDE && is_folder_synced(&t->place)) ||
                        (t->manner == IN_PLACE && cut_overwritten(&t->over, t->output->length));
-    return is_finished || complain(spoken(t), "is written, but may not be on the disk: %s", strerror(errno));
+    return is_finished || complain(spoken(t), "is written, but may not be on the disk yet: %s", strerror(errno));
 }
 
 static bool finish_all(target *targets, size_t count)

@@ -171,7 +171,7 @@ static void print_far_end(FILE *out, const finished_run *run)
 
 static void print_done(FILE *out, uint32_t count)
 {
-    fprintf(out, "The list draws. Its run fetched %" PRIu32 " %s, up to DISPLAY.", count,
+    fprintf(out, "The list draws. Its run fetched %" PRIu32 " %s.", count,
             plural(count, "word", "words"));
 }
 
@@ -206,7 +206,7 @@ static void print_detail(FILE *out, const finished_run *run)
         fputs("Only a CALL may lead here: end the words before it with DISPLAY or JUMP.", out);
         break;
     case JV_SPLIT_TARGET:
-        fputs("An offset counts bytes: that of the third word is 8.", out);
+        fputs("Offsets are in bytes: the third word is at offset 8.", out);
         break;
     case JV_NO_PRIMITIVE:
         fputs("Put BEGIN before it.", out);

@@ -49,11 +49,11 @@ static void tell_rows(FILE *out, const frame *f, const order *o, jv_answer answe
 {
     print_number(out, answer);
     if (answer.count == 0) {
-        fputs("\nNo row is repainted: what draws in each row is the same in both lists.\n", out);
+        fputs("\nNo row was repainted: both lists draw the same in every row.\n", out);
         return;
     }
     fprintf(out, "\n%" PRIu32 " of %" PRIu32 " %s %s repainted", answer.count, o->height,
-            plural(o->height, "row", "rows"), plural(answer.count, "is", "are"));
+            plural(o->height, "row", "rows"), plural(answer.count, "was", "were"));
     print_rows(out, f, o->height);
     fputs(".\n", out);
 }

@@ -65,7 +65,7 @@ int print_help_of(const command *c)
 {
     printf("usage: jokulvisp %s\n\n%s", c->usage, c->about);
     print_options(c);
-    printf("\nA file to read that is named '-' is standard input. Only one can be.\n");
+    printf("\nFor a file to read, '-' is standard input. Use it for one file only.\n");
     printf("\nExamples:\n%s\nExit status:\n%s", c->examples, c->status);
     return SUCCEEDED;
 }

@@ -1,4 +1,4 @@
-/* Lists that paint everything and then are at fault, one for each cause of the numbers 10 to 20 and more. */
+/* Lists that paint everything and then are at fault, one for each cause of the fault numbers and more. */
 #ifndef FAULTY_LISTS_H
 #define FAULTY_LISTS_H
 

@@ -231,7 +231,7 @@ static void check_vast_lengths(void)
     }
 }
 
-/* ---- Numbers 10 to 20 ---- */
+/* ---- Fault numbers ---- */
 
 static void check_faulty_lists(void)
 {

@@ -234,7 +234,7 @@ static void check_vast_lengths(void)
     }
 }
 
-/* ---- Numbers 10 to 20 ---- */
+/* ---- Fault numbers ---- */
 
 static jv_answer told_of(uint32_t list, run_answer a)
 {
@@ -265,7 +265,7 @@ static void check_faulty_lists(void)
     }
 }
 
-/* The two lists that 2 and 10 to 20 can name, each of them. */
+/* The two lists that 2 and the fault numbers can name, each of them. */
 static void check_each_met(void)
 {
     begin_part("each number refused");

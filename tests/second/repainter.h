@@ -19,8 +19,8 @@ typedef struct {
     size_t marks_length;
 } repaint_request;
 
-/* As document 01's number table says: for 2 and 10 to 20 `list` is 1, the old one, or 2, the new one, and otherwise 0;
-   the count is of the rows marked, or of the words that the faulty list fetched. */
+/* As document 01's number table says: for 2 and the fault numbers `list` is 1, the old one, or 2, the new one, and
+   otherwise 0; the count is of the rows marked, or of the words that the faulty list fetched. */
 typedef struct {
     uint32_t number, list, place, count;
 } repaint_answer;

@@ -40,9 +40,9 @@ help_by_tool() {
     return "$status"
 }
 
-# Whether it goes about to build for these arguments, which it cannot.
+# Whether it goes about to build for these arguments, which it cannot for this reason.
 does_not_help() {
-    ! run_script "$@" >stdout 2>stderr && [ ! -s stdout ] && grep -q '^packages are missing' stderr
+    ! run_script "${@:2}" >stdout 2>stderr && [ ! -s stdout ] && grep -q "^$1" stderr
 }
 
 try "help without the tool" help_without_tool 0 --help
@@ -54,4 +54,7 @@ try "a command's help without the tool, in short" help_without_tool 0 draw panel
 try "no arguments without the tool" help_without_tool 2
 try "the commands are those of the tool" help_names_commands
 try "help by the tool" help_by_tool
-try "no help for a file of that name" does_not_help check -- -h
+try "no toolchain" does_not_help 'the Rattle toolchain is missing' check panel.list
+ln -s "$(type -P true)" bin/rt
+try "no packages" does_not_help 'packages are missing' check panel.list
+try "no help for a file of that name" does_not_help 'packages are missing' check -- -h
