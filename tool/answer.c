@@ -29,10 +29,16 @@ static void print_subject(FILE *out, const finished_run *run)
     fputs(": ", out);
 }
 
+void print_hint(FILE *out, const char *before, const display_list *list)
+{
+    const char *hint = find_hint(list);
+    if (hint != NULL)
+        fprintf(out, "%s%s\n", before, hint);
+}
+
 static void print_answer(FILE *out, const finished_run *run)
 {
     uint32_t number = run->answer.number;
-    const char *hint = number != JV_BAD_RAM_G ? find_hint(run->list) : NULL;
     print_number(out, run->answer);
     fputc('\n', out);
     if (number != JV_DONE)
@@ -41,8 +47,8 @@ static void print_answer(FILE *out, const finished_run *run)
     fputc('\n', out);
     if (number != JV_DONE && !is_refusal(number) && run->answer.place < run->list->length)
         print_word(out, run->list, run->answer.place);
-    if (hint != NULL)
-        fprintf(out, "Hint: %s\n", hint);
+    if (number != JV_BAD_RAM_G)
+        print_hint(out, "Hint: ", run->list);
 }
 
 int tell_answer(FILE *out, const finished_run *run)

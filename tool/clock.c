@@ -1,5 +1,5 @@
-/* For sigaction, setitimer and clock_gettime. */
-#define _XOPEN_SOURCE 700
+/* For sigaction, setitimer, clock_gettime and the size of a terminal. */
+#define _DEFAULT_SOURCE
 
 #include "clock.h"
 
@@ -7,6 +7,7 @@
 #include <signal.h>
 #include <stdio.h>
 #include <string.h>
+#include <sys/ioctl.h>
 #include <sys/time.h>
 #include <time.h>
 #include <unistd.h>
@@ -21,6 +22,7 @@ static struct {
     struct timespec start;
     uint32_t timeout; /* in milliseconds, 0 for none */
     char command[32], farewell[2 * LINE];
+    size_t columns; /* of the terminal that are written to */
     volatile sig_atomic_t is_running, stage, rows_done, rows;
     volatile sig_atomic_t width; /* of the line on the terminal */
 } timer;
@@ -55,10 +57,14 @@ static void append_number(line *l, uint64_t number)
     append(l, first);
 }
 
-/* Shows the line in place of the one that is there. An empty one leaves the cursor at the start. */
-static void show(const line *l)
+/* Shows the line in place of the one that is there, as far as the terminal has room for it. An empty one leaves the
+   cursor at the start. */
+static void show(line *l)
 {
     line shown = { "\r", 1 };
+    if (l->length > timer.columns)
+        l->length = timer.columns;
+    l->text[l->length] = '\0';
     append(&shown, l->text);
     while (shown.length <= (size_t)timer.width)
         append(&shown, " ");
@@ -107,6 +113,15 @@ void note_row(void)
     timer.rows_done++;
 }
 
+void end_stage(void)
+{
+    sigset_t before;
+    hold_signals(&before);
+    timer.stage = DOING_NOTHING;
+    erase_line();
+    release_signals(&before);
+}
+
 /* ---- The clock ---- */
 
 static uint64_t elapsed(void)
@@ -125,6 +140,12 @@ static void give_up(void)
     _exit(GAVE_UP);
 }
 
+/* In the background the terminal belongs to others. */
+static bool is_in_foreground(void)
+{
+    return tcgetpgrp(STDERR_FILENO) == getpgrp();
+}
+
 /* The timer and the clock need not agree to the millisecond. */
 HANDLER static void tick(int number)
 {
@@ -133,7 +154,7 @@ HANDLER static void tick(int number)
     (void)number;
     if (timer.is_running && timer.timeout > 0 && now + 1 >= timer.timeout)
         give_up();
-    if (timer.is_running && timer.stage != DOING_NOTHING && now >= SHOWN_AFTER)
+    if (timer.is_running && timer.stage != DOING_NOTHING && now >= SHOWN_AFTER && is_in_foreground())
         show_progress(now / 1000);
     errno = reason;
 }
@@ -143,6 +164,14 @@ static void prepare_texts(const order *o)
     snprintf(timer.command, sizeof timer.command, "jokulvisp: %s: ", o->command->name);
     snprintf(timer.farewell, sizeof timer.farewell, "%sgave up after %.10g %s (--timeout).\n", timer.command,
              o->timeout / 1000.0, o->timeout == 1000 ? "second" : "seconds");
+}
+
+/* The last column is left free, for many terminals go on in the next line after it. */
+static size_t count_columns(void)
+{
+    struct winsize size = { 0 };
+    bool is_known = ioctl(STDERR_FILENO, TIOCGWINSZ, &size) == 0 && size.ws_col > 1;
+    return is_known && size.ws_col < LINE ? (size_t)size.ws_col - 1 : LINE - 1;
 }
 
 /* In microseconds, and such that the timeout is up at a tick. */
@@ -165,6 +194,7 @@ void start_clock(const order *o)
     if (o->timeout == 0 && !shows_progress(o))
         return;
     prepare_texts(o);
+    timer.columns = count_columns();
     timer.timeout = o->timeout;
     timer.is_running = true;
     clock_gettime(CLOCK_MONOTONIC, &timer.start);

@@ -19,11 +19,14 @@ bool shows_progress(const order *o);
 
 typedef enum { DOING_NOTHING, PAINTING, PAINTING_OLD_LIST, REPAINTING } stage;
 
-/* Says what is done from here on, until the clock stops, and with how many rows, 0 if they cannot be counted. From the
+/* Says what is done from here on, until the stage ends, and with how many rows, 0 if they cannot be counted. From the
    second second on the terminal shows it. */
 void begin_stage(stage s, uint32_t rows);
 
 /* Says that one more row is done. */
 void note_row(void);
+
+/* Says that nothing is done any more that could be shown, and erases what is shown. */
+void end_stage(void);
 
 #endif

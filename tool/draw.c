@@ -12,6 +12,7 @@ int run_draw(const order *o)
     if (input == NULL)
         return GAVE_UP;
     finished_run run = { o, input, &input->lists[0], paint_list(&painted, o, input, PAINTING) };
+    end_stage();
     bool is_done = run.answer.number == JV_DONE;
     bool is_written = is_done && write_frame(&painted, o);
     stop_clock();

@@ -28,10 +28,10 @@ static jv_answer paint_row(frame *f, const order *o, const run_input *input, uin
 /* Each row takes a run of the list, so this is for those who want to see how far it is. */
 static jv_answer paint_rows(frame *f, const order *o, const run_input *input)
 {
-    jv_answer answer = paint_row(f, o, input, 0);
-    for (uint32_t row = 1; answer.number == JV_DONE && row < o->height; row++) {
-        note_row();
+    jv_answer answer = { .number = JV_DONE };
+    for (uint32_t row = 0; answer.number == JV_DONE && row < o->height; row++) {
         answer = paint_row(f, o, input, row);
+        note_row();
     }
     return answer;
 }

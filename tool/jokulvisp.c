@@ -50,7 +50,7 @@ static int run(int count, char **arguments)
         return run_help(count - 1, arguments + 1);
     if (asks_for_version(first))
         return count == 1 ? print_version() : explain_usage(NULL, first, "takes no arguments");
-    return explain_usage(NULL, first, first[0] == '-' ? "the command must come first" : "no such command");
+    return explain_usage(NULL, first, first[0] == '-' ? "no such option, or it comes before the command" : "no such command");
 }
 
 /* Output is buffered, so a full disk may show only here. A reader that closes a pipe has read enough, and there is
@@ -66,8 +66,11 @@ static bool is_all_written(void)
     return false;
 }
 
+/* Messages of several runs at once are not mixed up if each line of them is written at once. */
 int main(int count, char **arguments)
 {
+    static char line[BUFSIZ];
+    setvbuf(stderr, line, _IOLBF, sizeof line);
     int status = run(count - 1, arguments + 1);
     return status == GAVE_UP || is_all_written() ? status : GAVE_UP;
 }

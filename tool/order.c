@@ -208,7 +208,8 @@ static bool refuse_use(const order *o, const option_names *option)
 static bool refuse_option(const order *o, bool lacks_value, const char *argument)
 {
     const option_names *known = find_option((char)optopt);
-    bool is_known = known != NULL && takes_option(o->command, known->letter) && (lacks_value || known->value == NULL);
+    bool has_value = strncmp(argument, "--", 2) == 0 && strchr(argument, '=') != NULL;
+    bool is_known = known != NULL && takes_option(o->command, known->letter) && (lacks_value || has_value);
     return is_known ? refuse_use(o, known) : refuse_unknown(o, argument);
 }
 
@@ -257,10 +258,12 @@ static bool take_files(order *o, int count, char **arguments)
     return true;
 }
 
-static bool is_among(const char *place, const char *const *others, int count)
+typedef bool are_one(const char *output, const char *other);
+
+static bool is_among(const char *output, const char *const *others, int count, are_one *is_same)
 {
     for (int n = 0; n < count; n++)
-        if (place != NULL && others[n] != NULL && are_one_place(place, others[n]))
+        if (output != NULL && others[n] != NULL && is_same(output, others[n]))
             return true;
     return false;
 }
@@ -271,10 +274,9 @@ static bool is_place_found(const char *name)
     place p;
     if (name == NULL || is_standard(name))
         return true;
-    if (!find_place(name, &p))
-        return complain(name, "%s", strerror(errno));
+    bool is_found = find_place(name, &p) && may_be_written(&p);
     leave_place(&p);
-    return true;
+    return is_found || complain(name, "%s", strerror(errno));
 }
 
 /* Nothing that is written may take the place of something else that is written, or of something that is read. */
@@ -283,10 +285,11 @@ static bool are_places_apart(const order *o)
     const char *const written[] = { o->output, o->tags, o->marks };
     const char *const read[] = { o->files[0], o->files[1], o->ram_g };
     for (int n = 0; n < 3; n++) {
-        if (is_among(written[n], written, n))
+        if (is_among(written[n], written, n, are_one_output))
             return refuse(o, written[n], "two outputs name the same file");
-        if (is_among(written[n], read, 3))
-            return refuse(o, written[n], "is an input file, and would be overwritten");
+        if (is_among(written[n], read, 3, is_output_read))
+            return refuse(o, is_standard(written[n]) ? "standard output" : written[n],
+                          "is an input file, and would be overwritten");
     }
     return true;
 }

@@ -1,4 +1,4 @@
-/* For openat and its kin, sigaction and getxattr. */
+/* For openat and its kin, sigaction and the attributes of files. */
 #define _GNU_SOURCE
 
 #include "output.h"
@@ -65,11 +65,13 @@ static bool open_in_place(target *t)
 }
 
 /* A list of permissions besides the mode. The mode alone would let in others than the list does. */
+#define ACCESS_LIST "system.posix_acl_access"
+
 static bool has_access_list(const place *p)
 {
     char path[MOST_LAST_NAME + 64];
     snprintf(path, sizeof path, "/proc/self/fd/%d/%s", p->folder, p->last);
-    return getxattr(path, "system.posix_acl_access", NULL, 0) > 0;
+    return getxattr(path, ACCESS_LIST, NULL, 0) > 0;
 }
 
 static bool is_replaceable(const place *p)
@@ -77,10 +79,12 @@ static bool is_replaceable(const place *p)
     return !p->is_fixed && p->found.st_nlink == 1 && !has_access_list(p);
 }
 
-/* Gives the part the owner and the mode of the file whose place it is to take. */
+/* Gives the part the owner and the mode of the file whose place it is to take, and takes away the list of permissions
+   that the folder may have given it, since the old file has none. */
 static bool is_made_alike(int descriptor, const struct stat *old)
 {
     struct stat new;
+    fremovexattr(descriptor, ACCESS_LIST);
     if (fstat(descriptor, &new) != 0)
         return false;
     bool is_owned = new.st_uid == old->st_uid && new.st_gid == old->st_gid;
@@ -112,7 +116,7 @@ static bool open_beside(target *t)
 /* A file can be replaced even if it may not be written, so that is asked first. */
 static bool open_over(target *t)
 {
-    if (faccessat(t->place.folder, t->place.last, W_OK, 0) != 0)
+    if (!may_be_written(&t->place))
         return false;
     return (is_replaceable(&t->place) && open_beside(t)) || open_in_place(t);
 }

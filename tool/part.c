@@ -7,9 +7,11 @@
 #include <fcntl.h>
 #include <stdint.h>
 #include <stdio.h>
+#include <string.h>
 #include <time.h>
 #include <unistd.h>
 
+#include "message.h"
 #include "place.h"
 
 /* A part for each output, and one that keeps the file whose place it takes. The names are enough that those of parts
@@ -17,7 +19,8 @@
 enum { MOST_PARTS = 6, NAMES = 1 << 24, MOST_TRIES = 1 << 16 };
 
 /* SIGXFSZ is not among them: whoever writes ignores it, and the write fails. */
-static const int ending_signals[] = { SIGHUP, SIGINT, SIGQUIT, SIGPIPE, SIGALRM, SIGTERM, SIGXCPU };
+static const int ending_signals[] = { SIGHUP,  SIGINT,  SIGQUIT, SIGPIPE,   SIGALRM, SIGTERM,
+                                      SIGUSR1, SIGUSR2, SIGXCPU, SIGVTALRM, SIGPROF };
 
 enum { ENDING_SIGNALS = sizeof ending_signals / sizeof ending_signals[0] };
 
@@ -139,7 +142,8 @@ void remove_part(part **p)
     if (*p == NULL)
         return;
     hold_signals(&before);
-    unlinkat((*p)->folder, (*p)->name, 0);
+    if (unlinkat((*p)->folder, (*p)->name, 0) != 0)
+        complain((*p)->name, "cannot be removed: %s", strerror(errno));
     forget_part(p);
     release_signals(&before);
 }

@@ -55,10 +55,15 @@ static bool enter_folder(place *p, const char *path)
     return true;
 }
 
+static bool is_folder(int folder, const char *name)
+{
+    struct stat named, found;
+    return stat(name, &named) == 0 && fstat(folder, &found) == 0 && is_one_file(&named, &found);
+}
+
 static bool holds_own_descriptors(int folder)
 {
-    struct stat own, found;
-    return stat("/proc/self/fd", &own) == 0 && fstat(folder, &found) == 0 && is_one_file(&own, &found);
+    return is_folder(folder, "/proc/self/fd") || is_folder(folder, "/proc/thread-self/fd");
 }
 
 /* A descriptor that the caller has opened stays open when a program is executed. Those opened here do not. */
@@ -102,7 +107,7 @@ static bool look_at(place *p)
 /* Whether the place is a link that leads to another name. Gives that name. */
 static bool is_link(const place *p, char path[PATH_MAX])
 {
-    ssize_t length = p->is_fixed ? -1 : readlinkat(p->folder, p->last, path, PATH_MAX - 1);
+    ssize_t length = is_in_proc(p->folder) ? -1 : readlinkat(p->folder, p->last, path, PATH_MAX - 1);
     if (length >= 0)
         path[length] = '\0';
     return length >= 0;
@@ -147,6 +152,11 @@ void leave_place(place *p)
     errno = reason;
 }
 
+bool may_be_written(const place *p)
+{
+    return p->descriptor >= 0 || !p->exists || faccessat(p->folder, p->last, W_OK, 0) == 0;
+}
+
 /* ---- Comparing places ---- */
 
 bool is_standard_output(const char *name)
@@ -176,16 +186,34 @@ static bool are_one_free_place(const place *a, const place *b)
            fstat(b->folder, &folder_b) == 0 && is_one_file(&folder_a, &folder_b);
 }
 
-bool are_one_place(const char *a, const char *b)
+/* '-' is this descriptor. */
+static bool find_standard_or_place(const char *name, int standard, place *p)
+{
+    if (!is_standard(name))
+        return find_place(name, p);
+    *p = (place){ .descriptor = standard, .folder = -1 };
+    p->exists = fstat(standard, &p->found) == 0;
+    return p->exists;
+}
+
+static bool are_one(const char *a, int standard_a, const char *b, int standard_b)
 {
     place place_a, place_b;
-    if (is_standard(a) || is_standard(b))
-        return false;
-    bool are_found = find_place(a, &place_a);
-    are_found = find_place(b, &place_b) && are_found;
+    bool are_found = find_standard_or_place(a, standard_a, &place_a);
+    are_found = find_standard_or_place(b, standard_b, &place_b) && are_found;
     bool are_one = are_found && (are_one_descriptor(&place_a, &place_b) || are_one_regular_file(&place_a, &place_b) ||
                                  are_one_free_place(&place_a, &place_b));
     leave_place(&place_a);
     leave_place(&place_b);
     return are_one;
+}
+
+bool are_one_output(const char *a, const char *b)
+{
+    return are_one(a, STDOUT_FILENO, b, STDOUT_FILENO);
+}
+
+bool is_output_read(const char *output, const char *input)
+{
+    return are_one(output, STDOUT_FILENO, input, STDIN_FILENO);
 }

@@ -25,9 +25,14 @@ void leave_place(place *p);
 /* Whether the output goes to standard output: '-', and what leads to descriptor 1, as /dev/stdout does. */
 bool is_standard_output(const char *name);
 
-/* Whether two names lead to the same descriptor or the same regular file, existing or not. '-' and devices do not
-   count. */
-bool are_one_place(const char *a, const char *b);
+/* Whether the file that exists there, if one does, may be written. Sets errno if not. */
+bool may_be_written(const place *p);
+
+/* Whether two outputs go to the same descriptor or the same regular file, existing or not. */
+bool are_one_output(const char *a, const char *b);
+
+/* Whether an output goes to the regular file that an input is read from. '-' is standard output or standard input. */
+bool is_output_read(const char *output, const char *input);
 
 /* Moves a descriptor above the three standard ones, which may have been closed by the caller: what is meant for them
    must not end up in a file. Returns the new one, or -1 for -1. */

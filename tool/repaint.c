@@ -58,10 +58,19 @@ static void tell_rows(FILE *out, const frame *f, const order *o, jv_answer answe
     fputs(".\n", out);
 }
 
-static int tell_repainted(const frame *f, const order *o, jv_answer answer)
+/* A list that is something else may draw all the same. */
+static void tell_hints(FILE *out, const run_input *input)
 {
-    if (!o->is_quiet)
+    print_hint(out, "Hint for the old list: ", &input->lists[0]);
+    print_hint(out, "Hint for the new list: ", &input->lists[1]);
+}
+
+static int tell_repainted(const frame *f, const order *o, const run_input *input, jv_answer answer)
+{
+    if (!o->is_quiet) {
         tell_rows(stream_for_answers(o), f, o, answer);
+        tell_hints(stream_for_answers(o), input);
+    }
     return o->wants_exit_code && answer.count > 0 ? ROWS_DIFFER : SUCCEEDED;
 }
 
@@ -80,10 +89,11 @@ int run_repaint(const order *o)
     if (input == NULL)
         return GAVE_UP;
     jv_answer answer = repaint_frame(&painted, o, input);
+    end_stage();
     finished_run run = { o, input, &input->lists[answer.list == 2 ? 1 : 0], answer };
     bool is_written = answer.number == JV_DONE && write_frame(&painted, o);
     stop_clock();
     if (answer.number != JV_DONE)
         return tell_fault(&run);
-    return is_written ? tell_repainted(&painted, o, answer) : GAVE_UP;
+    return is_written ? tell_repainted(&painted, o, input, answer) : GAVE_UP;
 }

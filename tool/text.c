@@ -102,8 +102,10 @@ bool read_number(piece p, int64_t *number)
     bool is_hex = rest.length > 2 && rest.start[0] == '0' && (rest.start[1] == 'x' || rest.start[1] == 'X');
     int base = is_hex ? 16 : 10;
     piece digits = piece_from(rest, is_hex ? 2 : 0);
+    if (!has_digits(digits, base, 1))
+        return false;
     *number = value_of(digits, base) * (is_negative ? -1 : 1);
-    return has_digits(digits, base, 1);
+    return true;
 }
 
 /* ---- Comments ---- */

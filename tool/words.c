@@ -2,7 +2,6 @@
 
 #include "answer.h"
 #include "check.h"
-#include "kind.h"
 #include "usage.h"
 #include "word.h"
 
@@ -46,9 +45,7 @@ static void print_words(const finished_run *run)
     }
     if (place_of_comment(run) == run->list->length)
         print_comment(run);
-    const char *hint = find_hint(run->list);
-    if (hint != NULL)
-        printf("# Hint: %s\n", hint);
+    print_hint(stdout, "# Hint: ", run->list);
 }
 
 int run_words(const order *o)

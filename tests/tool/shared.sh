@@ -69,6 +69,11 @@ make_from_words() {
     done
 }
 
+# Prints a list with the bytes of each word in the other order.
+swap_words() {
+    od -An -v -tx1 -w4 "$1" | while read -r a b c d; do printf '%b' "\\x$d\\x$c\\x$b\\x$a"; done
+}
+
 # Makes a list of each text of this name under texts/.
 make_from_texts() {
     local name

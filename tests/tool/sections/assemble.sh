@@ -123,6 +123,16 @@ jokulvisp draw -q -s 1x1 -o picture.png panel.list
 try "assemble, a picture" assemble_and_keep assemble-picture assemble -o made.list picture.png
 printf '\377\376D\0I\0S\0P\0L\0A\0Y\0\n\0' >utf16.txt
 try "assemble, UTF-16" assemble_and_keep assemble-utf16 assemble -o made.list utf16.txt
+printf 'D\0I\0S\0P\0L\0A\0Y\0\n\0' >utf16.txt
+try "assemble, UTF-16 without a byte order mark" assemble_and_keep assemble-utf16 assemble -o made.list utf16.txt
+swap_words panel.list >swapped.txt
+try "assemble, a list with its bytes swapped" assemble_and_keep assemble-swapped assemble -o made.list swapped.txt
+printf 'JUMP(%s)\n%s: DISPLAY\n' a_label_with_a_name_of_its_own{,} >long-label.txt
+make_list long-label 1E000004 00000000
+try "assemble, a long label" assemble_and_compare assemble-two-words long-label.list -o made.list long-label.txt
+printf 'NOP\n\357\273\277DISPLAY\n' >second-mark.txt
+try "assemble, a byte order mark within the text" \
+    assemble_and_keep assemble-second-mark assemble -o made.list second-mark.txt
 
 # ---- Names -----------------------------------------------------------------------------------------------------------
 

@@ -125,6 +125,10 @@ try "check, swapped bytes that draw" check_list swapped
 # VERTEX2F 0, 46 and DISPLAY
 make_list swapped-fault 2E000040 00000000
 try "check, swapped bytes at fault" check_list swapped-fault
+make_from_words panel
+swap_words panel.list >swapped-panel.list
+try "check, swapped bytes, one word with reserved bits" check_list swapped-panel
+try "check, no hint for what lies behind the list" check_words behind-display 26000007 00000000 00000026
 # As it is: VERTEX2F 0, 38; both ways it has a meaning.
 try "check, no hint for bytes that are right both ways" check_words right-both-ways 40000026 00000000
 try "check, no hint for one word that is wrong both ways" check_words wrong-both-ways 2E000040 2E00002E 00000000
@@ -145,6 +149,8 @@ printf '\377\376D\0I\0S\0P\0\n\0' >utf16.list
 try "check, UTF-16" check_list utf16
 printf '\376\377\0D\0I\0S\0\n\0' >utf16-high.list
 try "check, UTF-16, the high byte first" check_list utf16-high
+printf 'D\0I\0S\0P\0L\0A\0Y\0\n\0' >utf16-unmarked.list
+try "check, UTF-16 without a byte order mark" check_list utf16-unmarked
 # COLOR_RGB 255, 254, 255; VERTEX2F 480, 272
 try "check, no hint for a colour like a byte order mark" check_words no-utf16 04FFFEFF 40F00110
 jokulvisp draw -q -s 1x1 -o png.list panel.list

@@ -154,8 +154,32 @@ append_by_name() {
         tail -c +11 log >drawn.png && shows_small drawn.png
 }
 
+append_to_list() {
+    jokulvisp draw -s 2x2 -o - read.list >>read.list
+}
+
 append_to_log() {
     jokulvisp draw -s 2x2 -o "$1" small.list >>log
+}
+
+# Draws to a pipe under a name of standard output: nothing but the picture goes there.
+pipe_by_name() {
+    rm -f drawn.png
+    jokulvisp draw -s 2x2 -o "$1" small.list 2>stderr | cat >drawn.png
+    shows_small drawn.png && diff -u <(sed '1,3d' "$here/expect/draw-to-output") stderr
+}
+
+# Compares as compare_tool does, where standard output is a pipe.
+compare_piped() {
+    compare "$1" run_piped "${@:2}"
+}
+
+run_piped() {
+    jokulvisp "$@" | cat
+}
+
+draw_to_output_device() {
+    tool_output=/dev/null compare_tool draw-to-output draw -s 2x2 -o /dev/stdout small.list
 }
 
 # Draws to another descriptor, behind what has been written to it already.
@@ -197,10 +221,15 @@ ln -s /dev/stdout link-to-output
 for name in /dev/stdout /dev/fd/1 /proc/self/fd/1 link-to-output; do
     try "to $name, which is a file" append_by_name "$name"
 done
+for name in - /dev/stdout /dev/fd/1 link-to-output; do
+    try "to $name, which is a pipe" pipe_by_name "$name"
+done
+try "to /dev/stdout, which is a device" draw_to_output_device
 try "to another descriptor, which is a file" draw_to_descriptor
 try "to a FIFO" draw_to_fifo
 try "to a device" draw_to_stream /dev/null
 try "standard output twice, by two names" compare_tool output-twice draw -o - --tags /dev/stdout panel.list
+try "standard output twice, by two names and a pipe" compare_piped output-twice draw -o /dev/stdout --tags - panel.list
 try "standard output twice, by a link" compare_tool output-twice draw -o /dev/stdout --tags link-to-output panel.list
 try "one descriptor twice" write_and_keep one-descriptor draw -o /dev/fd/3 --tags /proc/self/fd/3 panel.list 3>/dev/null
 try "one device twice" compare_tool draw-panel draw -o /dev/null --tags /dev/null panel.list
@@ -214,6 +243,40 @@ echo 'as before' >drawn.png
 try "both closed, and no such folder" compare silent-failure fail_with_closed_streams
 try "nothing has changed" [ "$(cat drawn.png)" = 'as before' ]
 try "a descriptor that is no number" write_and_keep no-descriptor draw "${drawn[@]}" -o /dev/fd/x panel.list
+
+# What is read through '-' must not be written over either.
+cp small.list read.list
+cp panel.txt read.txt
+try "over the list on standard input" write_and_keep over-standard-input draw "${drawn[@]}" -o read.list - <read.list
+try "over the text on standard input" compare_tool assemble-over-input assemble -o read.txt - <read.txt
+try "behind the list" compare behind-list append_to_list
+try "what is read is as it was, again" cmp small.list read.list
+try "and the text" cmp panel.txt read.txt
+
+# ---- Lists of permissions --------------------------------------------------------------------------------------------
+
+# A file without such a list gets none, whatever its folder gives to new files.
+write_without_list() {
+    mkdir giving
+    echo 'as before' >giving/drawn.png
+    chmod 640 giving/drawn.png
+    "${RUN[@]}" ./access give giving || return
+    draw_to giving/drawn.png && [ "$(stat -c %a giving/drawn.png)" = 640 ] && ! "${RUN[@]}" ./access has giving/drawn.png
+}
+
+# A file with one keeps it.
+write_with_list() {
+    echo 'as before' >drawn.png
+    "${RUN[@]}" ./access set drawn.png && draw_to drawn.png && "${RUN[@]}" ./access has drawn.png
+}
+
+try "the program for lists of permissions builds" build access access.c
+mkdir trial
+if "${RUN[@]}" ./access give trial; then
+    try "over a file without a list of permissions" write_without_list
+    try "over a file with a list of permissions" write_with_list
+fi
+rm -f drawn.png
 
 # ---- Permissions -----------------------------------------------------------------------------------------------------
 

@@ -54,6 +54,12 @@ write_to_many_pipes() {
         [ -s tags.png ]
 }
 
+# Each message has a line of its own.
+complain_at_once() {
+    { printf 'missing-%d\n' {1..60} | xargs -P 4 -n 1 "${RUN[@]}" "$tool" check || true; } 2>&1 | sort -V |
+        diff -u <(printf 'jokulvisp: missing-%d: No such file or directory\n' {1..60}) -
+}
+
 # Starts the tool such that it waits, with a part beside tags.png, for a reader of a full pipe.
 start_before_full_pipe() {
     rm -f pipe said
@@ -98,10 +104,12 @@ write_after_kill() {
 
 try "a closed pipe" write_to_closed_pipe closed-pipe
 try "a closed pipe, and no signal for it" write_with_pipes_ignored
+try "messages of several runs at once" complain_at_once
 try "101 pipes that nobody reads" write_to_many_pipes
 try "SIGTERM before a full pipe" end_before_full_pipe TERM 143
 try "SIGINT before a full pipe" end_before_full_pipe INT 130
 try "SIGHUP before a full pipe" end_before_full_pipe HUP 129
+try "SIGUSR1 before a full pipe" end_before_full_pipe USR1 138
 try "the time is up before a full pipe" give_up_before_full_pipe
 try "a kill before a full pipe" write_after_kill
 
@@ -136,9 +144,11 @@ try "time enough for a fault" write_and_keep check-no-meaning draw "${drawn[@]}"
 # ---- Progress --------------------------------------------------------------------------------------------------------
 
 # Runs the tool on a terminal, and gives what that shows: a line for each one that the tool writes, or writes again.
+# `terminal` and `behind` stand before and behind it, for the shell on that terminal.
 run_on_terminal() {
     local status=0
-    script -qec "$(printf '%q ' "${RUN[@]}" "$tool" "$@")" /dev/null </dev/null >shown || status=$?
+    SHELL=$(type -P bash) script -qec \
+        "${terminal:-} $(printf '%q ' "${RUN[@]}" "$tool" "$@") ${behind:-}" /dev/null </dev/null >shown || status=$?
     tr '\r' '\n' <shown | sed '/^ *$/d' >lines
     return "$status"
 }
@@ -156,6 +166,32 @@ is_line_erased() {
     local last
     mapfile -t last < <(tr '\r' '\n' <shown | grep -B 2 'gave up')
     [[ ${last[0]} == *'painted, 1 s' ]] && [[ ${last[1]} =~ ^\ +$ ]] && [ ${#last[0]} -eq ${#last[1]} ]
+}
+
+# The line is as long as the terminal has room for.
+show_on_narrow_terminal() {
+    terminal='stty cols 40;' run_on_terminal draw -o drawn.png --timeout 1.6 "${slow[@]}" || [ $? -eq 2 ] || return
+    grep -q '^jokulvisp: draw: [0-9]* % of the rows are pai*n*t*$' lines && ! sed '$d' lines | grep '.\{40\}'
+}
+
+# What fails has a line of its own, whether progress was shown or not. It takes a second or two.
+fail_after_progress() {
+    local size=128x64
+    [ ${#RUN[@]} -eq 0 ] || size=40x40
+    run_on_terminal draw -o /dev/full -s "$size" slow.list || [ $? -eq 2 ] || return
+    ! sed '$d' lines | grep -v '^jokulvisp: draw: [0-9]* % of the rows are painted, [0-9]* s$' &&
+        [ "$(tail -n 1 lines)" = 'jokulvisp: /dev/full: No space left on device' ]
+}
+
+show_nothing_when_quiet() {
+    run_on_terminal draw -q -o drawn.png --timeout 1.6 "${slow[@]}" || [ $? -eq 2 ] || return
+    diff -u <(echo 'jokulvisp: draw: gave up after 1.6 seconds (--timeout).') lines
+}
+
+# A shell that controls jobs gives one in the background a group of its own.
+show_nothing_in_background() {
+    terminal='set -m;' behind='& wait' run_on_terminal draw -o drawn.png --timeout 1.6 "${slow[@]}" || return
+    diff -u <(echo 'jokulvisp: draw: gave up after 1.6 seconds (--timeout).') <(grep jokulvisp: lines)
 }
 
 # Draws on a terminal row by row what is otherwise painted at once.
@@ -179,6 +215,10 @@ try "progress of repaint, the old list" show_until_timeout \
     "jokulvisp: repaint: [0-9]* % of the old list's rows are painted, 1 s" repaint -o drawn.png "${slow[@]}" panel.list
 try "progress of repaint, the new list" show_until_timeout \
     'jokulvisp: repaint: repainting, 1 s' repaint -o drawn.png -s 800x100 panel.list slow.list
+try "progress on a narrow terminal" show_on_narrow_terminal
+try "a failure after progress" fail_after_progress
+try "no progress for the quiet" show_nothing_when_quiet
+try "no progress in the background" show_nothing_in_background
 try "no progress where there is no terminal" write_and_keep timeout-later draw "${drawn[@]}" --timeout 1.3 "${slow[@]}"
 try "a picture is the same on a terminal" draw_on_terminal
 try "a fault on a terminal" fail_on_terminal

@@ -41,6 +41,10 @@ try "repaint, the marks to standard output" compare_tool repaint-to-output \
     repaint -o drawn.png --marks - panel.list edited.list
 tool_output=
 
+# CLEAR_COLOR_RGB 255, 0, 0; CLEAR; DISPLAY, with their bytes swapped: the first reads as DISPLAY.
+make_list swapped 0000FF02 07000026 00000000
+try "repaint, a list with its bytes swapped that draws" compare_tool repaint-swapped \
+    repaint -o drawn.png -s 2x2 small.list swapped.list
 try "repaint, a fault in the old list" write_and_keep repaint-old-fault repaint "${repainted[@]}" faulty.list panel.list
 try "repaint, a fault in the new list" write_and_keep repaint-new-fault repaint "${repainted[@]}" panel.list faulty.list
 try "repaint, a fault in both" write_and_keep repaint-old-fault repaint "${repainted[@]}" faulty.list past-end.list

@@ -60,6 +60,7 @@ try "the start of two options" compare_tool two-options draw --t=1 -o none.png p
 try "an option that would do something to a terminal" compare_tool strange-option check $'--de\33pth' panel.list
 try "an option in short that would, too" compare_tool strange-short-option check $'-\33' panel.list
 try "an option that has no short name" compare_tool no-short-name draw -t tags.png -o none.png panel.list
+try "an option without a value that has no short name" compare_tool no-short-exit-code words -e panel.list
 try "an option of another command" compare_tool other-option check -o none.png panel.list
 try "marks are for repaint" compare_tool draw-marks draw -o none.png --marks marks.png panel.list
 try "a timeout is for what draws" compare_tool check-timeout check --timeout 1 panel.list
