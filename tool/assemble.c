@@ -75,7 +75,8 @@ static bool assemble_instruction(assembly *a, const text_line *line)
     if (!make_word(&a->faults, &a->labels, line, &bits) || !add_word(a, bits))
         return false;
     if (line->has_bits && line->bits != bits)
-        warn(&a->faults, "warning: the line has the bits %08" PRIX32 ", but its command is %08" PRIX32 ", which is written",
+        warn(&a->faults,
+             "warning: the line has the bits %08" PRIX32 ", but its command is %08" PRIX32 ", which is written",
              line->bits, bits);
     return true;
 }

@@ -50,7 +50,8 @@ static int run(int count, char **arguments)
         return run_help(count - 1, arguments + 1);
     if (asks_for_version(first))
         return count == 1 ? print_version() : explain_usage(NULL, first, "takes no arguments");
-    return explain_usage(NULL, first, first[0] == '-' ? "no such option, or it comes before the command" : "no such command");
+    bool is_option = first[0] == '-';
+    return explain_usage(NULL, first, is_option ? "no such option, or it comes before the command" : "no such command");
 }
 
 /* Output is buffered, so a full disk may show only here. A reader that closes a pipe has read enough, and there is

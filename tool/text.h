@@ -6,8 +6,8 @@
 #include <stddef.h>
 #include <stdint.h>
 
-/* A text as long as this holds the longest list with room for comments, eight times over. A line has room for a command,
-   its offset and bits, all fields and some more, so that too many of them can be told. */
+/* A text as long as this holds the longest list with room for comments, eight times over. A line has room for a
+   command, its offset and bits, all fields and some more, so that too many of them can be told. */
 enum { MOST_TEXT_BYTES = 1 << 20, MOST_LINE_BYTES = 1000, MOST_PIECES = 12 };
 
 /* Some bytes of a text. */

@@ -155,6 +155,7 @@ append_by_name() {
 }
 
 append_to_list() {
+    # shellcheck disable=SC2094 # that it is read and written is what is refused
     jokulvisp draw -s 2x2 -o - read.list >>read.list
 }
 
@@ -247,7 +248,9 @@ try "a descriptor that is no number" write_and_keep no-descriptor draw "${drawn[
 # What is read through '-' must not be written over either.
 cp small.list read.list
 cp panel.txt read.txt
+# shellcheck disable=SC2094 # likewise
 try "over the list on standard input" write_and_keep over-standard-input draw "${drawn[@]}" -o read.list - <read.list
+# shellcheck disable=SC2094 # likewise
 try "over the text on standard input" compare_tool assemble-over-input assemble -o read.txt - <read.txt
 try "behind the list" compare behind-list append_to_list
 try "what is read is as it was, again" cmp small.list read.list
@@ -261,7 +264,8 @@ write_without_list() {
     echo 'as before' >giving/drawn.png
     chmod 640 giving/drawn.png
     "${RUN[@]}" ./access give giving || return
-    draw_to giving/drawn.png && [ "$(stat -c %a giving/drawn.png)" = 640 ] && ! "${RUN[@]}" ./access has giving/drawn.png
+    draw_to giving/drawn.png && [ "$(stat -c %a giving/drawn.png)" = 640 ] &&
+        ! "${RUN[@]}" ./access has giving/drawn.png
 }
 
 # A file with one keeps it.
