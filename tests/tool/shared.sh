@@ -14,7 +14,7 @@ build() {
 
 # Stands before what is run. A signal has its default action then, also if these tests were started such that it is
 # ignored, as SIGINT is in the background.
-with_signals=(env --default-signal=HUP,INT,PIPE,TERM)
+with_signals=(env '--default-signal=HUP,INT,PIPE,TERM')
 
 # Runs the tool.
 jokulvisp() {
