@@ -620,8 +620,8 @@ typedef struct {
  *            JV_RING_LIST_FULL  RAM_DL has no room for the word, or for all that APPEND copies
  *            JV_RING_SWAPPED    SWAP was taken. The next run starts with the command after it
  *
- * A command that is taken moves read past it and its parameters, from the end of the ring to its start. DLSTART, APPEND
- * and words that go to RAM_DL move offset. write stays. At most 1023 words wait, so a run takes at most 1023 commands.
+ * A command that is taken moves read past it and its parameters, wrapping at the end of the ring. DLSTART, APPEND and
+ * words that go to RAM_DL move offset. write stays. At most 1023 words wait, so a run takes at most 1023 commands.
  *
  * A ring fault sets fault to 1. The command at fault has no effect, and read stays at it; the commands before it keep
  * their effect. From then on jv_ring_run and jv_ring_write return JV_RING_FAULTY until jv_ring_reset.
@@ -644,9 +644,9 @@ jv_ring jv_ring_run(const uint8_t *ring, size_t ring_length, uint8_t *ram_dl, si
  *            JV_RING_BAD_MARK  read, write or offset is out of range or not a multiple of 4
  *            JV_RING_FAULTY    fault is not 0
  *            JV_RING_NO_ROOM   words is longer than the room: 4092 bytes, less those that are waiting
- *            JV_RING_IDLE      the words are in the ring, from the old write mark on and from the end of the ring to
- *                              its start, and write has moved past them. The other bytes of the ring and the other
- *                              marks are unchanged
+ *            JV_RING_IDLE      the words are in the ring, from the old write mark on, wrapping at the end of the ring,
+ *                              and write has moved past them. The other bytes of the ring and the other marks are
+ *                              unchanged
  *   place, count:  0
  *
  * With a ring refusal the ring is unchanged, and the marks are those passed.
