@@ -10,7 +10,10 @@ typedef struct {
     vertex_place translation;
 } context;
 
-static const context starting_values = { .frac = JV_MAX_FRAC };
+/* The vertex format that counts in sixteenths of a pixel, with which a list starts. */
+enum { SIXTEENTHS = 4 };
+
+static const context starting_values = { .frac = SIXTEENTHS };
 
 typedef struct {
     context now;
@@ -106,7 +109,7 @@ static void set_handle(bitmap_handle *h, jv_word word)
 /* A VERTEX2F counts in the unit of its format, a VERTEX2II in pixels. */
 static vertex_place place_of(const context *now, jv_word vertex)
 {
-    int32_t unit = vertex.command == JV_VERTEX2F ? 1 << (JV_MAX_FRAC - now->frac) : 16;
+    int32_t unit = vertex.command == JV_VERTEX2F ? 1 << (SIXTEENTHS - now->frac) : 16;
     return (vertex_place){ (int32_t)vertex.a * unit + now->translation.x,
                            (int32_t)vertex.b * unit + now->translation.y };
 }

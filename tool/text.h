@@ -29,7 +29,7 @@ typedef struct {
 typedef struct {
     const char *bytes;
     size_t length, next;
-    uint32_t line;        /* the number of the line that was read last */
+    uint32_t line;         /* the number of the line that was read last */
     uint32_t open_comment; /* the number of the line with a comment that is never closed, or 0 */
 } list_text;
 
