@@ -1,6 +1,6 @@
 // The fields of the commands: how wide each is, and which of its numbers have a meaning.
 ghost use mathlib.Core.Path.{_≡_};
-ghost use Prim.Native.Nat.{_^_, _<_};
+ghost use Prim.Native.Nat.{_%_, _^_, _<_};
 ghost use Rattle.words.specs.Fields.{meant, means, width, holdsSigned, holds};
 ghost use Rattle.words.specs.Table.{rowOf};
 ghost use Rattle.words.specs.Layout.{layoutOf};
@@ -165,6 +165,14 @@ pub fn power(k: u32) -> u32
     ensures { λ r. ⌜ r ≡ 2 ^ k ⌝ }
 {
     1 << k
+}
+
+// The remainder by 2^k, without a division.
+pub fn low_bits(n: u32, k: u32) -> u32
+    requires { ⌜ k < 32 ⌝ }
+    ensures { λ r. ⌜ r ≡ n % 2 ^ k ⌝ }
+{
+    n & (power(k) - 1)
 }
 
 pub fn width_of(field: Field) -> u32

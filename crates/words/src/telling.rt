@@ -10,6 +10,7 @@ use crate::field::Field;
 use crate::field::Layout;
 use crate::field::fields_of;
 use crate::field::is_meaningful;
+use crate::field::low_bits;
 use crate::field::power;
 use crate::field::width_of;
 use crate::spelling::Spelling;
@@ -66,7 +67,7 @@ fn cut(w: u32, field: Field, low: u32) -> Piece
     ensures { λ r. ⌜ Apart w field low r ⌝ }
 {
     let width = width_of(field);
-    let bits = (w >> low) % power(width);
+    let bits = low_bits(w >> low, width);
     let number = value_of(field, bits);
     let used = width + low;
     Piece {

@@ -9,6 +9,7 @@ use crate::field::Field;
 use crate::field::Layout;
 use crate::field::fields_of;
 use crate::field::is_held;
+use crate::field::low_bits;
 use crate::field::power;
 use crate::field::width_of;
 use crate::spelling::Spelling;
@@ -31,7 +32,7 @@ fn pack(low: Packed, field: Field, n: u32) -> Packed
     ensures { λ r. ⌜ Laid low field n r ⌝ }
 {
     let width = width_of(field);
-    let own = n % power(width);
+    let own = low_bits(n, width);
     let lifted = own * power(low.used);
     let bits = lifted + low.bits;
     let used = width + low.used;

@@ -1,6 +1,5 @@
 use mathlib.Core.Path.{refl}
 use native.Mathlib.Omega.{arith}
-use lib.Pow.{pow-pos}
 use borrow.Author.Needs.{needs}
 use Rattle.words.specs.Fields.{width}
 use Rattle.words.proofs.Digits.{laid-lt, pack-fits}
@@ -10,25 +9,22 @@ use Rattle.words.proofs.writing.pack.Tie as tie
 width-of-requires : tie.Need-width-of-requires
 width-of-requires c κs = search needs
 
+low-bits-requires : tie.Need-low-bits-requires
+low-bits-requires c κs = search needs
+
 power-requires : tie.Need-power-requires
 power-requires c κs = search needs
-
-rem-own : tie.Need-rem-own
-rem-own c = rw (c .power .ensures) (pow-pos _)
-
-power-requires-2 : tie.Need-power-requires-2
-power-requires-2 c κs = search needs
 
 mul-lifted : tie.Need-mul-lifted
 mul-lifted c =
     let start = c .before .before .before in
-    rw (c .before .power .ensures, c .power2 .ensures)
+    rw (c .before .low-bits .ensures, c .power .ensures)
     (omega (arith, pack-fits (c .before .before .width-of .result) (start .args .low .used) (start .args .n) (start .args .low .bits) (start .pre .below) (omega arith)))
 
 add-bits : tie.Need-add-bits
 add-bits c =
     let start = c .before .before .before .before in
-    rw (c .before .before .power .ensures, c .before .power2 .ensures)
+    rw (c .before .before .low-bits .ensures, c .before .power .ensures)
     (omega (arith, pack-fits (c .before .before .before .width-of .result) (start .args .low .used) (start .args .n) (start .args .low .bits) (start .pre .below) (omega arith)))
 
 add-used : tie.Need-add-used
@@ -37,7 +33,7 @@ add-used c = search needs
 returns : tie.Need-returns
 returns c =
     let start = c .before .before .before .before .before in
-    rw (c .before .before .before .power .ensures, c .before .before .power2 .ensures, c .before .before .before .before .width-of .ensures)
+    rw (c .before .before .before .low-bits .ensures, c .before .before .power .ensures, c .before .before .before .before .width-of .ensures)
     (record {
       bits = refl;
       used = refl;
@@ -49,9 +45,8 @@ pack-spec =
     tie.close
     (tie.spec
     width-of-requires
+    low-bits-requires
     power-requires
-    rem-own
-    power-requires-2
     mul-lifted
     add-bits
     add-used
