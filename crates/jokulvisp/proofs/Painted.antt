@@ -2,7 +2,7 @@
 use mathlib.Core.Path.{_≡_, refl, sym, ap, subst, _∙_}
 use mathlib.Core.Bool.{Bool, true, false, _&&_}
 use mathlib.Core.List.{List}
-use Prim.Native.Nat.{ℕ, _+_, _*_, _/_, _%_, _≤_}
+use Prim.Native.Nat.{ℕ, _+_, _-_, _*_, _≤_}
 use native.Mathlib.Nat.{add-zero, le-trans, mul-left-comm}
 use native.Mathlib.Omega.{arith}
 use lib.Dec.{eqb, ltb}
@@ -62,27 +62,17 @@ paints-new {due} x z =
     let n : due .number ≡ 0 = number-of (sym (x .answered)) ∙ z in
     (x .painted ∙ left-new due _ _ n, x .tagged ∙ left-new due _ _ n)
 
--- LENGTHS. A run of three bytes a pixel, by a division.
-
-and-false : (a b : Bool) → (a ≡ true → b ≡ true → ⊥) → (a && b) ≡ false
-and-false true true h = absurd (h refl refl)
-and-false true false h = refl
-and-false false b h = refl
-
-thirds : (n p : ℕ) → (eqb (n % 3) 0 && eqb (n / 3) p) ≡ eqb n (3 * p)
+-- LENGTHS. A run of three bytes a pixel: what is left of it without two thirds is the last. A difference that stops at 0 is none.
+thirds : (n p : ℕ) → eqb (n - p - p) p ≡ eqb n (3 * p)
 thirds n p = go (eqb n (3 * p)) refl
   where
-    go : (b : Bool) → eqb n (3 * p) ≡ b → (eqb (n % 3) 0 && eqb (n / 3) p) ≡ b
-    go true e =
-        let h : n ≡ 3 * p = eqb-true n (3 * p) e in
-        let r : n % 3 ≡ 0 = omega (arith, h) in
-        let q : n / 3 ≡ p = omega (arith, h) in
-        rw (eq-eqb (n % 3) 0 r, eq-eqb (n / 3) p q) refl
-    go false e = and-false _ _ (λ r q. eqb-false n (3 * p) e (omega (arith, eqb-true (n % 3) 0 r, eqb-true (n / 3) p q)))
+    go : (b : Bool) → eqb n (3 * p) ≡ b → eqb (n - p - p) p ≡ b
+    go true e = eq-eqb (n - p - p) p (omega (arith, eqb-true n (3 * p) e))
+    go false e = ne-eqb (n - p - p) p (λ q. eqb-false n (3 * p) e (omega (arith, q)))
 
 pub lent-told :
     (width rows picture tags : ℕ) →
-    (eqb (picture % 3) 0 && eqb (picture / 3) (rows * width) && eqb tags (rows * width)) ≡ isLent width rows picture tags
+    (eqb (picture - rows * width - rows * width) (rows * width) && eqb tags (rows * width)) ≡ isLent width rows picture tags
 unfolding isLent
 lent-told width rows picture tags = rw (thirds picture (rows * width), mul-left-comm 3 rows width) refl
 

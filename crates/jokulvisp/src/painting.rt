@@ -4,13 +4,15 @@ ghost use lib.ListN.{length};
 ghost use Rattle.jokulvisp.specs.Paint.{isLent, Lends, RowsAnswer, PaintRowAnswer, PaintAnswer};
 use crate::check::JvAnswer;
 use crate::check::answer;
+use units::less;
 
-// The frame's limits may be broken here, so a product of three numbers could be past 64 bits: picture is divided instead.
+// The frame's limits may be broken here, so three times the pixels could be past 64 bits: they are taken off the picture instead.
 pub fn is_lent(width: u32, rows: u32, picture: usize, tags: usize) -> bool
     ensures { λ r. ⌜ r ≡ isLent width rows picture tags ⌝ }
 {
-    let pixels = (rows as usize) * (width as usize);
-    (picture % 3 == 0) & (picture / 3 == pixels) & (tags == pixels)
+    let pixels = (rows as u64) * (width as u64);
+    let last = less(less(picture as u64, pixels), pixels);
+    (last == pixels) & (tags as u64 == pixels)
 }
 
 // Paints so many rows from `first` on, where nothing is refused and the list draws.
