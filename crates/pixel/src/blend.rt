@@ -1,5 +1,6 @@
 // The colour product and the blend.
 ghost use mathlib.Core.Path.{_≡_};
+ghost use Prim.Native.Nat.{_/_, _<_};
 ghost use Rattle.action.specs.Flags.{isSet};
 ghost use Rattle.pixel.specs.Blend.{product, white, tinted, source, weight, blended};
 ghost use Rattle.pixel.specs.Bytes.{masked};
@@ -26,12 +27,20 @@ pub fn white() -> Colour
     }
 }
 
+// The quotient rounded down, of any number below 65,535, by shifts and additions alone.
+fn by_255(x: u32) -> u32
+    requires { ⌜ x < 65535 ⌝ }
+    ensures { λ r. ⌜ r ≡ x / 255 ⌝ }
+{
+    (x + 1 + (x >> 8)) >> 8
+}
+
 fn product(a: u8, b: u8) -> u8
     ensures { λ r. ⌜ r ≡ product a b ⌝ }
 {
     let a = a as u32;
     let b = b as u32;
-    ((a * b + 127) / 255) as u8
+    by_255(a * b + 127) as u8
 }
 
 // A channel of the texel times that of the current colour.
@@ -52,6 +61,18 @@ pub fn multiply(texel: Colour, colour: Colour) -> Shade
     }
 }
 
+// White times a colour is that colour, which a compiler does not see through the shifts.
+pub fn untextured(colour: Colour) -> Shade
+    ensures { λ r. ⌜ r ≡ source white colour ⌝ }
+{
+    Shade {
+        red: byte(colour.red),
+        green: byte(colour.green),
+        blue: byte(colour.blue),
+        alpha: byte(colour.alpha),
+    }
+}
+
 pub fn weigh(factor: Factor, source: u8, stored: u8) -> u8
     ensures { λ r. ⌜ r ≡ weight factor source stored ⌝ }
 {
@@ -65,6 +86,7 @@ pub fn weigh(factor: Factor, source: u8, stored: u8) -> u8
     }
 }
 
+// From 255 times 255 on, the answer is 255 whatever is divided.
 fn mix(s: u8, f: u8, d: u8, g: u8) -> u8
     ensures { λ r. ⌜ r ≡ blended s f d g ⌝ }
 {
@@ -72,8 +94,8 @@ fn mix(s: u8, f: u8, d: u8, g: u8) -> u8
     let f = f as u32;
     let d = d as u32;
     let g = g as u32;
-    let sum = (s * f + d * g + 127) / 255;
-    if sum < 255 { sum as u8 } else { 255 }
+    let sum = s * f + d * g + 127;
+    if sum < 65025 { by_255(sum) as u8 } else { 255 }
 }
 
 // A channel, blended where its mask is set.
