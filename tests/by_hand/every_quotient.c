@@ -1,8 +1,8 @@
 /* Everything that the library divides by 255, through its pictures: all 65,536 products of a texel's byte and a
    colour's, and every number that a blend's S*f + D*g can be. What has to come is worked out by dividing.
 
-   Products are told by the alpha channel, the only one in which a texel can have any byte; sums by red, green and blue. All
-   four channels go through the same two functions. */
+   Products are told by the alpha channel, the only one in which a texel can have any byte, and sums by red, green and
+   blue. All four channels go through the same two functions. */
 #include <stdbool.h>
 #include <stddef.h>
 #include <stdint.h>
@@ -91,8 +91,8 @@ typedef struct {
 
 static bool is_met[LARGEST_SUM + 1];
 
-/* One pair a channel. The factor of what is drawn is its alpha, 0 to 255 down the picture; that of what is stored is the
-   stored alpha, 0 to 255 across it. */
+/* One pair a channel. The factor of what is drawn is its alpha, 0 to 255 down the picture; that of what is stored is
+   the stored alpha, 0 to 255 across it. */
 static void check_sums_of(const colour_pair pairs[CHANNELS])
 {
     const uint32_t words[] = {
@@ -117,7 +117,7 @@ static void check_sums_of(const colour_pair pairs[CHANNELS])
 
 enum { FROM = 240, CLOSE_PAIRS = (256 - FROM) * (257 - FROM) / 2, PAIRS = (1 + CLOSE_PAIRS + 2) / CHANNELS * CHANNELS };
 
-/* 255 and 1 make every number up to 65,280; two bytes from 240 on, whichever is larger, what is above. */
+/* 255 and 1 make every number up to 65,280; two bytes from 240 on, the larger one drawn, make what is above. */
 static void gather_pairs(colour_pair pairs[PAIRS])
 {
     size_t count = 0;

@@ -62,7 +62,7 @@ paints-new {due} x z =
     let n : due .number ≡ 0 = number-of (sym (x .answered)) ∙ z in
     (x .painted ∙ left-new due _ _ n, x .tagged ∙ left-new due _ _ n)
 
--- LENGTHS. A run of three bytes a pixel: what is left of it without two thirds is the last. A difference that stops at 0 is none.
+-- LENGTHS. A run has three bytes for each of p pixels exactly if p bytes are left of it when p are taken off twice, also where a difference stops at 0.
 thirds : (n p : ℕ) → eqb (n - p - p) p ≡ eqb n (3 * p)
 thirds n p = go (eqb n (3 * p)) refl
   where

@@ -6,7 +6,7 @@ use crate::check::JvAnswer;
 use crate::check::answer;
 use units::less;
 
-// The frame's limits may be broken here, so three times the pixels could be past 64 bits: they are taken off the picture instead.
+// The frame's limits may be broken here, and three times the pixels past 64 bits: so they are taken off the picture's length twice.
 pub fn is_lent(width: u32, rows: u32, picture: usize, tags: usize) -> bool
     ensures { λ r. ⌜ r ≡ isLent width rows picture tags ⌝ }
 {

@@ -27,7 +27,7 @@ pub fn white() -> Colour
     }
 }
 
-// The quotient rounded down, of any number below 65,535, by shifts and additions alone.
+// 'done by shifts and additions': document 02, wish 4, for a core that has no divide instruction.
 fn by_255(x: u32) -> u32
     requires { ⌜ x < 65535 ⌝ }
     ensures { λ r. ⌜ r ≡ x / 255 ⌝ }
@@ -61,7 +61,7 @@ pub fn multiply(texel: Colour, colour: Colour) -> Shade
     }
 }
 
-// White times a colour is that colour, which a compiler does not see through the shifts.
+// White times a colour is the colour. The compiler saw that of a quotient, and does not see it through the shifts.
 pub fn untextured(colour: Colour) -> Shade
     ensures { λ r. ⌜ r ≡ source white colour ⌝ }
 {
@@ -86,7 +86,7 @@ pub fn weigh(factor: Factor, source: u8, stored: u8) -> u8
     }
 }
 
-// From 255 times 255 on, the answer is 255 whatever is divided.
+// 'at most 255', which it is from 255 * 255 on; `by_255` is right only below 65,535.
 fn mix(s: u8, f: u8, d: u8, g: u8) -> u8
     ensures { λ r. ⌜ r ≡ blended s f d g ⌝ }
 {

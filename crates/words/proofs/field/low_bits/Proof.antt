@@ -1,5 +1,3 @@
-use mathlib.Core.Path.{_≡_}
-use native.Mathlib.Omega.{arith}
 use lib.Bits.{and-mask}
 use lib.Pow.{pow-pos}
 use borrow.Author.Needs.{needs}
