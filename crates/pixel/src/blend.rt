@@ -61,7 +61,7 @@ pub fn multiply(texel: Colour, colour: Colour) -> Shade
     }
 }
 
-// White times a colour is the colour. The compiler saw that of a quotient, and does not see it through the shifts.
+// White times a colour is the colour. A compiler sees that of a quotient by 255, but not through the shifts.
 pub fn untextured(colour: Colour) -> Shade
     ensures { λ r. ⌜ r ≡ source white colour ⌝ }
 {
