@@ -113,7 +113,7 @@ static const hand_picture measures[] = {
            BLEND_FUNC(ONE, ZERO), VERTEX2II(0, 0, 0, 0), DISPLAY()),
       SHOWS("w0#",
             "00#"),
-      WHERE({ 'w', { 248, 252, 248, 255 } }, { '0', { 0, 0, 0, 255 } }),
+      WHERE({ 'w', { 255, 255, 255, 255 } }, { '0', { 0, 0, 0, 255 } }),
       OVER_RAM_G(0xFF, 0xFF, 0xFF, 0xFF, 0xFF, 0xFF) },
     { CASE("it counts in the stencil"),
       LIST(BITMAP(L8, 1, 1, 2, 2), STENCIL_OP(KEEP, INCR), VERTEX2II(0, 0, 0, 0), SHOW_STENCIL, DISPLAY()),
@@ -122,7 +122,7 @@ static const hand_picture measures[] = {
       WHERE({ '1', { 1, 1, 1, 255 } }), OVER_RAM_G(10) },
     { CASE("in two bytes a pixel, half a stride is as wide as the layout"),
       LIST(BITMAP(RGB565, 4, 1, 3, 1), BLEND_FUNC(ONE, ZERO), VERTEX2II(0, 0, 0, 0), DISPLAY()), SHOWS("ww0."),
-      WHERE({ 'w', { 248, 252, 248, 255 } }, { '0', { 0, 0, 0, 255 } }),
+      WHERE({ 'w', { 255, 255, 255, 255 } }, { '0', { 0, 0, 0, 255 } }),
       OVER_RAM_G(0xFF, 0xFF, 0xFF, 0xFF, 0xFF, 0xFF) },
     { CASE("a source inside RAM_G"),
       LIST(TWO_BY_TWO, BITMAP_SOURCE(2), VERTEX2II(0, 0, 0, 0), DISPLAY()),
@@ -173,7 +173,7 @@ static const hand_picture cells[] = {
       GREYS, OVER_RAM_G(10, 20, 30, 40, 50, 60) },
 };
 
-/* Two-byte pixels have their low byte first. Widened, 31 of 5 bits is 248 and 63 of 6 bits is 252. */
+/* Two-byte pixels have their low byte first. */
 static const hand_picture formats[] = {
     { CASE("L8 is white with that alpha"),
       LIST(CLEAR_COLOR_RGB(0, 100, 200), CLEAR(1, 0, 0), BITMAP(L8, 3, 1, 3, 1), VERTEX2II(0, 0, 0, 0), DISPLAY()),
@@ -185,8 +185,8 @@ static const hand_picture formats[] = {
       LIST(COLOR_RGB(200, 0, 0), COLOR_A(128), BITMAP(L8, 1, 1, 1, 1), VERTEX2II(0, 0, 0, 0), DISPLAY()), SHOWS("x"),
       WHERE({ 'x', { 50, 0, 0, 255 } }), OVER_RAM_G(128) },
     { CASE("RGB565"), LIST(BITMAP(RGB565, 10, 1, 5, 1), VERTEX2II(0, 0, 0, 0), DISPLAY()), SHOWS("rgbw0"),
-      WHERE({ 'r', { 248, 0, 0, 255 } }, { 'g', { 0, 252, 0, 255 } }, { 'b', { 0, 0, 248, 255 } },
-            { 'w', { 248, 252, 248, 255 } }, { '0', { 0, 0, 0, 255 } }),
+      WHERE({ 'r', { 255, 0, 0, 255 } }, { 'g', { 0, 255, 0, 255 } }, { 'b', { 0, 0, 255, 255 } },
+            { 'w', { 255, 255, 255, 255 } }, { '0', { 0, 0, 0, 255 } }),
       OVER_RAM_G(0x00, 0xF8, 0xE0, 0x07, 0x1F, 0x00, 0xFF, 0xFF, 0x00, 0x00) },
     { CASE("RGB565, the lowest bit of each"), LIST(BITMAP(RGB565, 6, 1, 3, 1), VERTEX2II(0, 0, 0, 0), DISPLAY()),
       SHOWS("rgb"),
@@ -197,8 +197,8 @@ static const hand_picture formats[] = {
            DISPLAY()),
       SHOWS("0w"), WHERE({ '0', { 0, 0, 0, 255 } }, { 'w', { 255, 255, 255, 0 } }), OVER_RAM_G(0, 0) },
     { CASE("ARGB1555, alpha 1"), LIST(BITMAP(ARGB1555, 8, 1, 4, 1), VERTEX2II(0, 0, 0, 0), DISPLAY()), SHOWS("rgbw"),
-      WHERE({ 'r', { 248, 0, 0, 255 } }, { 'g', { 0, 248, 0, 255 } }, { 'b', { 0, 0, 248, 255 } },
-            { 'w', { 248, 248, 248, 255 } }),
+      WHERE({ 'r', { 255, 0, 0, 255 } }, { 'g', { 0, 255, 0, 255 } }, { 'b', { 0, 0, 255, 255 } },
+            { 'w', { 255, 255, 255, 255 } }),
       OVER_RAM_G(0x00, 0xFC, 0xE0, 0x83, 0x1F, 0x80, 0xFF, 0xFF) },
     { CASE("ARGB1555, the lowest bit of each"), LIST(BITMAP(ARGB1555, 6, 1, 3, 1), VERTEX2II(0, 0, 0, 0), DISPLAY()),
       SHOWS("rgb"),
@@ -206,15 +206,15 @@ static const hand_picture formats[] = {
       OVER_RAM_G(0x00, 0x84, 0x20, 0x80, 0x01, 0x80) },
     { CASE("ARGB1555, alpha 0 covers nothing"),
       LIST(CLEAR_COLOR_RGB(1, 2, 3), CLEAR(1, 0, 0), BITMAP(ARGB1555, 4, 1, 2, 1), VERTEX2II(0, 0, 0, 0), DISPLAY()),
-      SHOWS("xw"), WHERE({ 'x', { 1, 2, 3, 255 } }, { 'w', { 248, 248, 248, 255 } }),
+      SHOWS("xw"), WHERE({ 'x', { 1, 2, 3, 255 } }, { 'w', { 255, 255, 255, 255 } }),
       OVER_RAM_G(0xFF, 0x7F, 0xFF, 0xFF) },
     { CASE("ARGB1555, alpha 0 has its colour all the same"),
       LIST(BITMAP(ARGB1555, 2, 1, 1, 1), BLEND_FUNC(ONE, ZERO), VERTEX2II(0, 0, 0, 0), DISPLAY()), SHOWS("x"),
-      WHERE({ 'x', { 248, 0, 248, 255 } }), OVER_RAM_G(0x1F, 0x7C) },
-    /* Each channel of 248, 252, 248 times 128, 64, 255 is 124, 63, 248; by alpha 128 that is 62, 32, 124. */
+      WHERE({ 'x', { 255, 0, 255, 255 } }), OVER_RAM_G(0x1F, 0x7C) },
+    /* 30, 62, 31 are 247, 251, 255; times 128, 64, 255 that is 124, 63, 255, and by alpha 128 it is 62, 32, 128. */
     { CASE("RGB565 times colour and alpha"),
       LIST(COLOR_RGB(128, 64, 255), COLOR_A(128), BITMAP(RGB565, 2, 1, 1, 1), VERTEX2II(0, 0, 0, 0), DISPLAY()),
-      SHOWS("x"), WHERE({ 'x', { 62, 32, 124, 255 } }), OVER_RAM_G(0xFF, 0xFF) },
+      SHOWS("x"), WHERE({ 'x', { 62, 32, 128, 255 } }), OVER_RAM_G(0xDF, 0xF7) },
     /* Alphas 127 times 1 and 127 make 254; 128 times 1, 255; 100 times 99, 10027, which is 39 times 255 and more. */
     { CASE("the product is rounded"),
       LIST(BITMAP(L8, 1, 1, 1, 1), COLOR_A(1), VERTEX2II(0, 0, 0, 0), VERTEX2II(1, 0, 0, 1), COLOR_A(99),
@@ -224,11 +224,33 @@ static const hand_picture formats[] = {
     { CASE("the alpha test sees the product: 255 times 99 is 99"),
       LIST(BITMAP(RGB565, 2, 1, 1, 1), COLOR_A(99), BLEND_FUNC(ONE, ZERO), ALPHA_FUNC(GREATER, 98),
            VERTEX2II(0, 0, 0, 0), ALPHA_FUNC(GREATER, 99), VERTEX2II(1, 0, 0, 0), DISPLAY()),
-      SHOWS("x."), WHERE({ 'x', { 248, 252, 248, 255 } }), OVER_RAM_G(0xFF, 0xFF) },
+      SHOWS("x."), WHERE({ 'x', { 255, 255, 255, 255 } }), OVER_RAM_G(0xFF, 0xFF) },
     { CASE("the colour of points is no texel's"),
       LIST(BITMAP(RGB565, 2, 1, 1, 1), VERTEX2II(0, 0, 0, 0), BEGIN(POINTS), POINT_SIZE(0), VERTEX2II(1, 0, 0, 0),
            DISPLAY()),
-      SHOWS("r#"), WHERE({ 'r', { 248, 0, 0, 255 } }), OVER_RAM_G(0x00, 0xF8) },
+      SHOWS("r#"), WHERE({ 'r', { 255, 0, 0, 255 } }), OVER_RAM_G(0x00, 0xF8) },
+};
+
+/* ---- Widening ---- */
+
+/* 'Repeat the top bits below': abcde becomes abcdeabc, and abcdef becomes abcdefab. */
+#define LOW_FIRST(n) (n) & 0xFF, (n) >> 8
+#define TEXEL_565(r, g, b) LOW_FIRST((r) << 11 | (g) << 5 | (b))
+#define TEXEL_1555(r, g, b) LOW_FIRST(1 << 15 | (r) << 10 | (g) << 5 | (b))
+
+static const hand_picture widened[] = {
+    { CASE("RGB565, from nothing to all in each channel"),
+      LIST(BITMAP(RGB565, 12, 1, 6, 1), VERTEX2II(0, 0, 0, 0), DISPLAY()), SHOWS("abcdef"),
+      WHERE({ 'a', { 0, 4, 123, 255 } }, { 'b', { 8, 125, 132, 255 } }, { 'c', { 123, 130, 247, 255 } },
+            { 'd', { 132, 251, 255, 255 } }, { 'e', { 247, 255, 0, 255 } }, { 'f', { 255, 0, 8, 255 } }),
+      OVER_RAM_G(TEXEL_565(0, 1, 15), TEXEL_565(1, 31, 16), TEXEL_565(15, 32, 30), TEXEL_565(16, 62, 31),
+                 TEXEL_565(30, 63, 0), TEXEL_565(31, 0, 1)) },
+    { CASE("ARGB1555, from nothing to all in each channel"),
+      LIST(BITMAP(ARGB1555, 12, 1, 6, 1), VERTEX2II(0, 0, 0, 0), DISPLAY()), SHOWS("abcdef"),
+      WHERE({ 'a', { 0, 8, 123, 255 } }, { 'b', { 8, 123, 132, 255 } }, { 'c', { 123, 132, 247, 255 } },
+            { 'd', { 132, 247, 255, 255 } }, { 'e', { 247, 255, 0, 255 } }, { 'f', { 255, 0, 8, 255 } }),
+      OVER_RAM_G(TEXEL_1555(0, 1, 15), TEXEL_1555(1, 15, 16), TEXEL_1555(15, 16, 30), TEXEL_1555(16, 30, 31),
+                 TEXEL_1555(30, 31, 0), TEXEL_1555(31, 0, 1)) },
 };
 
 /* ---- The H words ---- */
@@ -296,5 +318,6 @@ void check_bitmaps_by_hand(void)
     CHECK_PICTURES("bitmaps, their measures", measures);
     CHECK_PICTURES("bitmaps, their cells", cells);
     CHECK_PICTURES("bitmaps, their formats", formats);
+    CHECK_PICTURES("bitmaps, fields widened", widened);
     check_high_bits();
 }

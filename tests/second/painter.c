@@ -144,16 +144,29 @@ static uint32_t two_bytes_at(const uint8_t *byte)
     return (uint32_t)byte[1] << 8 | byte[0];
 }
 
-/* 'Widened to eight bits by filling with zeros below; the one-bit alpha gives 0 or 255.' */
-static rgba widened_argb1555(uint32_t bits)
+/* Wish 3: 'five bits v become v*8 plus v divided by 4 rounded down, six bits become v*4 plus v divided by 16 rounded
+   down.' */
+static uint8_t five_bits(uint32_t v)
 {
-    return (rgba){ (uint8_t)(bits >> 7 & 0xF8), (uint8_t)(bits >> 2 & 0xF8), (uint8_t)(bits << 3 & 0xF8),
-                   bits >> 15 != 0 ? 255 : 0 };
+    v %= 32;
+    return (uint8_t)(v * 8 + v / 4);
 }
 
-static rgba widened_rgb565(uint32_t bits)
+static uint8_t six_bits(uint32_t v)
 {
-    return (rgba){ (uint8_t)(bits >> 8 & 0xF8), (uint8_t)(bits >> 3 & 0xFC), (uint8_t)(bits << 3 & 0xF8), 255 };
+    v %= 64;
+    return (uint8_t)(v * 4 + v / 16);
+}
+
+/* 'The one-bit alpha gives 0 or 255, RGB565 alpha is 255.' */
+static rgba of_argb1555(uint32_t bits)
+{
+    return (rgba){ five_bits(bits >> 10), five_bits(bits >> 5), five_bits(bits), bits >> 15 != 0 ? 255 : 0 };
+}
+
+static rgba of_rgb565(uint32_t bits)
+{
+    return (rgba){ five_bits(bits >> 11), six_bits(bits >> 5), five_bits(bits), 255 };
 }
 
 /* 'A drawn pixel past stride or layout height reads as (0, 0, 0, 0).' */
@@ -165,7 +178,7 @@ static rgba texel(const uint8_t *ram_g, const bitmap_shape *b, uint32_t column, 
     const uint8_t *first = ram_g + b->cell_start + line * b->stride + byte;
     if (b->format == JV_FORMAT_L8)
         return (rgba){ 255, 255, 255, *first };
-    return b->format == JV_FORMAT_RGB565 ? widened_rgb565(two_bytes_at(first)) : widened_argb1555(two_bytes_at(first));
+    return b->format == JV_FORMAT_RGB565 ? of_rgb565(two_bytes_at(first)) : of_argb1555(two_bytes_at(first));
 }
 
 /* ---- One pixel ---- */

@@ -1,6 +1,6 @@
 -- The texel that a drawn pixel of a bitmap reads. Document 01, 'Which pixels': "A drawn pixel past stride or layout height reads as (0, 0, 0, 0).
--- L8 gives white with that alpha. RGB565 and ARGB1555 fields are widened to eight bits by filling with zeros below; the one-bit alpha gives 0 or
--- 255, RGB565 alpha is 255."
+-- L8 gives white with that alpha. RGB565 and ARGB1555 fields are widened to eight bits ..; the one-bit alpha gives 0 or 255, RGB565 alpha is 255."
+-- How they are widened stands in Widen.antt.
 use mathlib.Core.Bool.{Bool, _&&_, cond}
 use mathlib.Core.List.{List}
 use Prim.Native.Nat.{ℕ, _+_, _-_, _*_, _/_, _%_, _^_}
@@ -10,6 +10,7 @@ use Rattle.action.specs.declared.ink.Colour.{Colour}
 use Rattle.action.specs.declared.numbers.Format.{Format}
 use Rattle.action.specs.declared.numbers.Format.the-variants as m
 use Rattle.action.specs.declared.shape.Bitmap.{Bitmap}
+use Rattle.texel.specs.Widen.{widened}
 
 -- bytes of a pixel
 abbrev pub pixelBytes : Format → ℕ
@@ -21,9 +22,9 @@ pixelBytes m.Rgb565 = 2
 abbrev pub field : ℕ → ℕ → ℕ → ℕ
 field n low width = n / 2 ^ low % 2 ^ width
 
--- such a field as a channel: its bits above, zeros below
+-- such a field as a channel
 abbrev pub channel : ℕ → ℕ → ℕ → ℕ
-channel n low width = field n low width * 2 ^ (8 - width)
+channel n low width = widened width (field n low width)
 
 -- a byte past the end of the memory is 0; number 18 keeps every cell inside
 abbrev pub byteAt : List ℕ → ℕ → ℕ
@@ -39,7 +40,7 @@ rgb565 n = record { red = channel n 11 5; green = channel n 5 6; blue = channel 
 
 -- alpha 15, red 14..10, green 9..5, blue 4..0
 unfoldable pub argb1555 : ℕ → Colour
-argb1555 n = record { red = channel n 10 5; green = channel n 5 5; blue = channel n 0 5; alpha = field n 15 1 * 255 }
+argb1555 n = record { red = channel n 10 5; green = channel n 5 5; blue = channel n 0 5; alpha = channel n 15 1 }
 
 unfoldable pub l8 : ℕ → Colour
 l8 n = record { red = 255; green = 255; blue = 255; alpha = n }

@@ -1,7 +1,8 @@
 // One texel of a cell in RAM_G: formats, widening, and what lies past stride or layout height. Where it is drawn is not known here.
 ghost use mathlib.Core.Path.{_≡_};
-ghost use Prim.Native.Nat.{_+_, _*_, _/_};
-ghost use Rattle.texel.specs.Texel.{pixelBytes, byteAt, rgb565, argb1555, l8, none, texelAt};
+ghost use Prim.Native.Nat.{_+_, _*_, _/_, _<_};
+ghost use Rattle.texel.specs.Texel.{pixelBytes, channel, byteAt, rgb565, argb1555, l8, none, texelAt};
+ghost use Rattle.texel.specs.Widen.{Narrow, widened};
 use action::Bitmap;
 use action::Colour;
 use action::Format;
@@ -44,13 +45,32 @@ fn l8(n: u8) -> Colour
     }
 }
 
+// A number of so many bits, widened to eight: at the top of the byte it stands once, then twice, four and eight times, as far as there is room.
+fn widen(width: u32, v: u32) -> u32
+    requires { ⌜ Narrow width v ⌝ }
+    ensures { λ r. ⌜ r ≡ widened width v ⌝ }
+{
+    let once = v << (8 - width);
+    let twice = once + (once >> width);
+    let four_times = twice + (twice >> (2 * width));
+    four_times + (four_times >> (4 * width))
+}
+
+// The field of so many bits from bit `low` on, as a channel.
+fn channel(n: u32, low: u32, width: u32) -> u32
+    requires { ⌜ (low < 32) × ((0 < width) × (width < 8)) ⌝ }
+    ensures { λ r. ⌜ r ≡ channel n low width ⌝ }
+{
+    widen(width, (n >> low) & ((1 << width) - 1))
+}
+
 fn rgb565(n: u32) -> Colour
     ensures { λ r. ⌜ r ≡ rgb565 n ⌝ }
 {
     Colour {
-        red: n / 2048 % 32 * 8,
-        green: n / 32 % 64 * 4,
-        blue: n % 32 * 8,
+        red: channel(n, 11, 5),
+        green: channel(n, 5, 6),
+        blue: channel(n, 0, 5),
         alpha: 255,
     }
 }
@@ -59,10 +79,10 @@ fn argb1555(n: u32) -> Colour
     ensures { λ r. ⌜ r ≡ argb1555 n ⌝ }
 {
     Colour {
-        red: n / 1024 % 32 * 8,
-        green: n / 32 % 32 * 8,
-        blue: n % 32 * 8,
-        alpha: n / 32768 % 2 * 255,
+        red: channel(n, 10, 5),
+        green: channel(n, 5, 5),
+        blue: channel(n, 0, 5),
+        alpha: channel(n, 15, 1),
     }
 }
 
