@@ -111,10 +111,10 @@ static const hand_picture measures[] = {
     { CASE("it is blended: with ONE and ZERO it is black"),
       LIST(CLEAR_COLOR_RGB(255, 255, 255), CLEAR_TAG(255), CLEAR(1, 1, 1), BITMAP(RGB565, 2, 1, 2, 2),
            BLEND_FUNC(ONE, ZERO), VERTEX2II(0, 0, 0, 0), DISPLAY()),
-      SHOWS("w0#",
+      SHOWS("r0#",
             "00#"),
-      WHERE({ 'w', { 255, 255, 255, 255 } }, { '0', { 0, 0, 0, 255 } }),
-      OVER_RAM_G(0xFF, 0xFF, 0xFF, 0xFF, 0xFF, 0xFF) },
+      WHERE({ 'r', { 255, 0, 0, 255 } }, { '0', { 0, 0, 0, 255 } }),
+      OVER_RAM_G(0x00, 0xF8, 0xFF, 0xFF, 0xFF, 0xFF) },
     { CASE("it counts in the stencil"),
       LIST(BITMAP(L8, 1, 1, 2, 2), STENCIL_OP(KEEP, INCR), VERTEX2II(0, 0, 0, 0), SHOW_STENCIL, DISPLAY()),
       SHOWS("11.",
@@ -233,11 +233,11 @@ static const hand_picture formats[] = {
 
 /* ---- Widening ---- */
 
-/* 'Repeat the top bits below': abcde becomes abcdeabc, and abcdef becomes abcdefab. */
 #define LOW_FIRST(n) (n) & 0xFF, (n) >> 8
 #define TEXEL_565(r, g, b) LOW_FIRST((r) << 11 | (g) << 5 | (b))
 #define TEXEL_1555(r, g, b) LOW_FIRST(1 << 15 | (r) << 10 | (g) << 5 | (b))
 
+/* 'Repeat the top bits below': abcde becomes abcdeabc, and abcdef becomes abcdefab. */
 static const hand_picture widened[] = {
     { CASE("RGB565, from nothing to all in each channel"),
       LIST(BITMAP(RGB565, 12, 1, 6, 1), VERTEX2II(0, 0, 0, 0), DISPLAY()), SHOWS("abcdef"),

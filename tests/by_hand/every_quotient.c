@@ -9,26 +9,17 @@
 #include <string.h>
 
 #include "../shared/check.h"
-#include "../shared/list_check.h"
 #include "../shared/list_words.h"
 #include "../shared/tables.h"
 #include "hand_pictures.h"
 #include "jokulvisp.h"
+#include "square_pictures.h"
 
-enum {
-    SIDE = 256,
-    PIXELS = SIDE * SIDE,
-    LARGEST_PRODUCT = 255 * 255,
-    LARGEST_SUM = 2 * LARGEST_PRODUCT,
-    CHANNELS = 3,
-    MOST_WORDS = JV_MAX_LIST_BYTES / 4
-};
+enum { LARGEST_PRODUCT = 255 * 255, LARGEST_SUM = 2 * LARGEST_PRODUCT, MOST_WORDS = JV_MAX_LIST_BYTES / 4 };
 
 /* Two L8 bitmaps of 256 by 256: in cell 0 the byte of a texel is its column, in cell 1 its line. */
 enum { ACROSS, DOWN, CELLS };
 static uint8_t ram_g[CELLS * PIXELS];
-
-static uint8_t picture[CHANNELS * PIXELS], tags[PIXELS];
 
 static void fill_ram_g(void)
 {
@@ -40,15 +31,6 @@ static void fill_ram_g(void)
 
 #define SQUARE_BITMAP BITMAP(L8, SIDE, SIDE, SIDE, SIDE)
 #define LINE_BITMAP BITMAP(L8, SIDE, 1, SIDE, 1)
-
-static void paint(const uint32_t *words, size_t count)
-{
-    static uint8_t list[JV_MAX_LIST_BYTES];
-    put_words(list, words, count);
-    jv_answer answer = jv_paint(list, 4 * count, ram_g, sizeof ram_g, SIDE, SIDE, JV_MAX_LIMIT, picture, sizeof picture,
-                                tags, sizeof tags);
-    CHECK_HOLDS(answer.number == JV_DONE, "the list is refused with %u", answer.number);
-}
 
 /* '(.. + 127) divided by 255, rounded down, at most 255' */
 static uint32_t quotient_of(uint32_t n)
@@ -74,7 +56,7 @@ static void check_products(void)
     for (uint32_t y = 0; y < SIDE; y++)
         count = add_words(words, count, LIST(COLOR_A(y), VERTEX2II(0, y, 0, 0)));
     count = add_words(words, count, LIST(SHOW_ALPHA, DISPLAY()));
-    paint(words, count);
+    paint(words, count, ram_g, sizeof ram_g);
     for (uint32_t texel = 0; texel < SIDE; texel++)
         for (uint32_t colour = 0; colour < SIDE; colour++) {
             uint32_t came = picture[CHANNELS * (colour * SIDE + texel)], wanted = quotient_of(texel * colour);
@@ -105,7 +87,7 @@ static void check_sums_of(const colour_pair pairs[CHANNELS])
         VERTEX2II(0, 0, 0, DOWN),
         DISPLAY(),
     };
-    paint(words, LENGTH(words));
+    paint(words, LENGTH(words), ram_g, sizeof ram_g);
     for (uint32_t n = 0; n < sizeof picture; n++) {
         uint32_t s = pairs[n % CHANNELS].drawn, d = pairs[n % CHANNELS].stored;
         uint32_t f = n / CHANNELS / SIDE, g = n / CHANNELS % SIDE;

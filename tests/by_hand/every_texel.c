@@ -4,22 +4,19 @@
 #include <stdint.h>
 
 #include "../shared/check.h"
-#include "../shared/list_check.h"
 #include "../shared/list_words.h"
 #include "../shared/tables.h"
 #include "hand_pictures.h"
-#include "jokulvisp.h"
+#include "square_pictures.h"
 
-enum { SIDE = 256, TEXELS = SIDE * SIDE, CHANNELS = 3, ALPHA = 3 };
+enum { ALPHA = CHANNELS };
 
 /* A bitmap of 256 by 256: the number of a texel is its place. */
-static uint8_t ram_g[2 * TEXELS];
-
-static uint8_t picture[CHANNELS * TEXELS], tags[TEXELS];
+static uint8_t ram_g[2 * PIXELS];
 
 static void fill_ram_g(void)
 {
-    for (size_t n = 0; n < TEXELS; n++) {
+    for (size_t n = 0; n < PIXELS; n++) {
         ram_g[2 * n] = (uint8_t)(n % 256);
         ram_g[2 * n + 1] = (uint8_t)(n / 256);
     }
@@ -50,19 +47,10 @@ static uint32_t widened(uint32_t texel, field f)
     return byte;
 }
 
-static void paint(const uint32_t *words, size_t count)
-{
-    static uint8_t list[JV_MAX_LIST_BYTES];
-    put_words(list, words, count);
-    jv_answer answer = jv_paint(list, 4 * count, ram_g, sizeof ram_g, SIDE, SIDE, JV_MAX_LIMIT, picture, sizeof picture,
-                                tags, sizeof tags);
-    CHECK_HOLDS(answer.number == JV_DONE, "the list is refused with %u", answer.number);
-}
-
 /* The byte `from` of each pixel of the picture against the channel of its texel. */
 static void check_channel(const format *f, size_t channel, size_t from)
 {
-    for (uint32_t texel = 0; texel < TEXELS; texel++) {
+    for (uint32_t texel = 0; texel < PIXELS; texel++) {
         uint32_t came = picture[CHANNELS * texel + from], wanted = widened(texel, f->fields[channel]);
         CHECK_HOLDS(came == wanted, "%s %04X has %u in channel %zu, not %u", f->name, texel, wanted, channel, came);
     }
@@ -73,10 +61,10 @@ static void check_channel(const format *f, size_t channel, size_t from)
 static void check_format(const format *f)
 {
     begin_part(f->name);
-    paint(LIST(DRAW_ALL(f->number), DISPLAY()));
+    paint(LIST(DRAW_ALL(f->number), DISPLAY()), ram_g, sizeof ram_g);
     for (size_t channel = 0; channel < CHANNELS; channel++)
         check_channel(f, channel, channel);
-    paint(LIST(DRAW_ALL(f->number), SHOW_ALPHA, DISPLAY()));
+    paint(LIST(DRAW_ALL(f->number), SHOW_ALPHA, DISPLAY()), ram_g, sizeof ram_g);
     check_channel(f, ALPHA, 0);
 }
 

@@ -7,7 +7,7 @@ use native.Mathlib.Omega.{arith}
 use lib.Dec.{leb}
 use lib.Pow.{pow-pos, pow-add, pow-mono, shl-lt, shl-shr, shr-lt, shr-shr, high}
 use borrow.Author.Tests.{leb-true, leb-false}
-use Rattle.texel.specs.Widen.{repeated, widened, Narrow, Formulas}
+use Rattle.texel.specs.Widen.{repeated, widened, OfBits, Formulas}
 
 -- of k bits the first eight, with zeros below where there are fewer
 abbrev first : ℕ → ℕ → ℕ
@@ -19,8 +19,8 @@ whole k x h =
     let p : 2 ^ 8 ≡ 2 ^ (8 - k) * 2 ^ k = ap (λ (n : ℕ). 2 ^ n) e ∙ pow-add 2 (8 - k) k in
     omega (arith, ap (λ (n : ℕ). x * n) p)
 
-few : (k x : ℕ) → k ≤ 8 → first k x ≡ x * 2 ^ (8 - k)
-few k x h = ap (λ (n : ℕ). n / 2 ^ k) (whole k x h) ∙ shl-shr (x * 2 ^ (8 - k)) k
+padded : (k x : ℕ) → k ≤ 8 → first k x ≡ x * 2 ^ (8 - k)
+padded k x h = ap (λ (n : ℕ). n / 2 ^ k) (whole k x h) ∙ shl-shr (x * 2 ^ (8 - k)) k
 
 small : (k x : ℕ) → x < 2 ^ k → first k x < 2 ^ 8
 small k x h =
@@ -28,8 +28,8 @@ small k x h =
     let l : x * 2 ^ 8 < 2 ^ (k + 8) = shl-lt k 8 h in
     shr-lt 8 k (rw e at l)
 
-twice : (k x : ℕ) → x < 2 ^ k → first (k + k) (x * 2 ^ k + x) ≡ first k x + first k x / 2 ^ k
-twice k x h = halved ∙ go (leb k 8) refl
+again : (k x : ℕ) → x < 2 ^ k → first (k + k) (x * 2 ^ k + x) ≡ first k x + first k x / 2 ^ k
+again k x h = halved ∙ go (leb k 8) refl
   where
     halved : first (k + k) (x * 2 ^ k + x) ≡ (x * 2 ^ 8 + first k x) / 2 ^ k
     halved =
@@ -40,7 +40,7 @@ twice k x h = halved ∙ go (leb k 8) refl
     go : (t : Bool) → leb k 8 ≡ t → (x * 2 ^ 8 + first k x) / 2 ^ k ≡ first k x + first k x / 2 ^ k
     go true e =
         let l = leb-true k 8 e in
-        let d : x * 2 ^ 8 ≡ first k x * 2 ^ k = whole k x l ∙ ap (λ (n : ℕ). n * 2 ^ k) (sym (few k x l)) in
+        let d : x * 2 ^ 8 ≡ first k x * 2 ^ k = whole k x l ∙ ap (λ (n : ℕ). n * 2 ^ k) (sym (padded k x l)) in
         ap (λ (n : ℕ). (n + first k x) / 2 ^ k) d ∙ mul-add-div-right (pow-pos k) (first k x) (first k x)
     go false e =
         let l = leb-false k 8 e in
@@ -49,7 +49,7 @@ twice k x h = halved ∙ go (leb k 8) refl
         ap (λ (n : ℕ). x * 2 ^ 8 / 2 ^ n) (sym s) ∙ sym (shr-shr (x * 2 ^ 8) 8 (k - 8)) ∙ ap (λ (n : ℕ). n / 2 ^ (k - 8)) (shl-shr x 8) in
         let z : first k x / 2 ^ k ≡ 0 = div-eq-of-lt (omega (arith, small k x h, pow-mono {i = 8} {j = k} (omega arith))) in
         ap (λ (n : ℕ). (x * 2 ^ 8 + first k x) / 2 ^ n) (sym s) ∙ sym (shr-shr (x * 2 ^ 8 + first k x) 8 (k - 8))
-        ∙ ap (λ (n : ℕ). n / 2 ^ (k - 8)) (high x 8 (small k x h)) ∙ sym i ∙ (omega (arith, z))
+        ∙ ap (λ (n : ℕ). n / 2 ^ (k - 8)) (high x 8 (small k x h)) ∙ sym i ∙ omega (arith, z)
 
 module _ (w v : ℕ) where
   longer : (n : ℕ) → 2 ^ (suc n * w) ≡ 2 ^ (n * w) * 2 ^ w
@@ -69,38 +69,32 @@ module _ (w v : ℕ) where
   unfoldable pub start : ℕ → ℕ
   start n = first (n * w) (repeated w v n)
 
-  doubled : v < 2 ^ w → (n : ℕ) → start (n + n) ≡ start n + start n / 2 ^ (n * w)
-  unfolding start
-  doubled h n =
-      let e : (n + n) * w ≡ n * w + n * w = omega arith in
-      rw (e, after n n) (twice (n * w) (repeated w v n) (below h n))
-
-module _ {w v : ℕ} (narrow : Narrow w v) where
+module _ {w v : ℕ} (of : OfBits w v) where
   pub start-small : (n : ℕ) → start w v n < 2 ^ 8
   unfolding start
-  start-small n = small (n * w) (repeated w v n) (below w v (narrow .fits) n)
+  start-small n = small (n * w) (repeated w v n) (below w v (of .fits) n)
 
   pub once : v * 2 ^ (8 - w) % 2 ^ 32 ≡ start w v 1
   unfolding start repeated
   once =
       let e : 1 * w ≡ w = omega arith in
       let z : 0 * 2 ^ w + v ≡ v = omega arith in
-      let f : first w v ≡ v * 2 ^ (8 - w) = few w v (omega (arith, narrow .few)) in
-      rw (e, z) (mod-eq-of-lt (omega (arith, small w v (narrow .fits), f)) ∙ sym f)
+      let f : first w v ≡ v * 2 ^ (8 - w) = padded w v (omega (arith, of .few)) in
+      rw (e, z) (mod-eq-of-lt (omega (arith, small w v (of .fits), f)) ∙ sym f)
 
-  pub two-times : start w v 1 + start w v 1 / 2 ^ w ≡ start w v 2
-  two-times = let e : 1 * w ≡ w = omega arith in rw (doubled w v (narrow .fits) 1, e)
+  pub doubled : (n : ℕ) → start w v n + start w v n / 2 ^ (n * w) ≡ start w v (n + n)
+  unfolding start
+  doubled n =
+      let e : (n + n) * w ≡ n * w + n * w = omega arith in
+      rw (e, after w v n n) (sym (again (n * w) (repeated w v n) (below w v (of .fits) n)))
 
-  pub four-times : start w v 2 + start w v 2 / 2 ^ (2 * w) ≡ start w v 4
-  four-times = sym (doubled w v (narrow .fits) 2)
-
-  pub eight-times : start w v 4 + start w v 4 / 2 ^ (4 * w) ≡ start w v 8
-  eight-times = sym (doubled w v (narrow .fits) 4)
+  pub twice : start w v 1 + start w v 1 / 2 ^ w ≡ start w v 2
+  twice = let e : 1 * w ≡ w = omega arith in let d = doubled 1 in rw e at d
 
   pub all : start w v 8 ≡ widened w v
   unfolding widened start
   all =
-      let e : 8 * w ≡ 8 + (8 * w - 8) = omega (arith, narrow .some) in
+      let e : 8 * w ≡ 8 + (8 * w - 8) = omega (arith, of .some) in
       ap (λ (k : ℕ). repeated w v 8 * 2 ^ 8 / 2 ^ k) e ∙ sym (shr-shr (repeated w v 8 * 2 ^ 8) 8 (8 * w - 8))
       ∙ ap (λ (k : ℕ). k / 2 ^ (8 * w - 8)) (shl-shr (repeated w v 8) 8)
 

@@ -3,7 +3,7 @@
 -- How they are widened stands in Widen.antt.
 use mathlib.Core.Bool.{Bool, _&&_, cond}
 use mathlib.Core.List.{List}
-use Prim.Native.Nat.{ℕ, _+_, _-_, _*_, _/_, _%_, _^_}
+use Prim.Native.Nat.{ℕ, _+_, _*_, _/_, _%_, _^_}
 use lib.Dec.{ltb}
 use lib.ListN.{getD}
 use Rattle.action.specs.declared.ink.Colour.{Colour}
@@ -38,7 +38,7 @@ pairAt memory at = byteAt memory at + 256 * byteAt memory (at + 1)
 unfoldable pub rgb565 : ℕ → Colour
 rgb565 n = record { red = channel n 11 5; green = channel n 5 6; blue = channel n 0 5; alpha = 255 }
 
--- alpha 15, red 14..10, green 9..5, blue 4..0
+-- alpha 15, red 14..10, green 9..5, blue 4..0. Wish 3: "ARGB1555 follows the five-bit rule."
 unfoldable pub argb1555 : ℕ → Colour
 argb1555 n = record { red = channel n 10 5; green = channel n 5 5; blue = channel n 0 5; alpha = channel n 15 1 }
 

@@ -2,7 +2,7 @@
 ghost use mathlib.Core.Path.{_≡_};
 ghost use Prim.Native.Nat.{_+_, _*_, _/_, _<_};
 ghost use Rattle.texel.specs.Texel.{pixelBytes, channel, byteAt, rgb565, argb1555, l8, none, texelAt};
-ghost use Rattle.texel.specs.Widen.{Narrow, widened};
+ghost use Rattle.texel.specs.Widen.{OfBits, widened};
 use action::Bitmap;
 use action::Colour;
 use action::Format;
@@ -47,7 +47,7 @@ fn l8(n: u8) -> Colour
 
 // A number of so many bits, widened to eight: at the top of the byte it stands once, then twice, four and eight times, as far as there is room.
 fn widen(width: u32, v: u32) -> u32
-    requires { ⌜ Narrow width v ⌝ }
+    requires { ⌜ OfBits width v ⌝ }
     ensures { λ r. ⌜ r ≡ widened width v ⌝ }
 {
     let once = v << (8 - width);
