@@ -5,7 +5,7 @@ ghost use Rattle.action.specs.Same.{Tells};
 
 use crate::numbers::{Factor, StencilAction, Test};
 
-#[derive(Drop)]
+#[derive(Clone, Copy)]
 pub struct Colour {
     pub red: u32,
     pub green: u32,
@@ -24,7 +24,7 @@ impl Colour {
     }
 }
 
-#[derive(Drop)]
+#[derive(Clone, Copy)]
 pub struct AlphaTest {
     pub test: Test,
     pub reference: u32,
@@ -40,7 +40,7 @@ impl AlphaTest {
     }
 }
 
-#[derive(Drop)]
+#[derive(Clone, Copy)]
 pub struct StencilTest {
     pub test: Test,
     pub reference: u32,
@@ -58,7 +58,7 @@ impl StencilTest {
 }
 
 // What is done where the stencil test fails, and where it passes.
-#[derive(Drop)]
+#[derive(Clone, Copy)]
 pub struct StencilActions {
     pub fail: StencilAction,
     pub pass: StencilAction,
@@ -76,7 +76,7 @@ impl StencilActions {
     }
 }
 
-#[derive(Drop)]
+#[derive(Clone, Copy)]
 pub struct Blend {
     pub source: Factor,
     pub target: Factor,
@@ -95,7 +95,7 @@ impl Blend {
 }
 
 // What may be written: each channel and the tag by 0 or 1, the stencil bit by bit.
-#[derive(Drop)]
+#[derive(Clone, Copy)]
 pub struct Masks {
     pub red: u32,
     pub green: u32,
@@ -119,7 +119,7 @@ impl Masks {
 }
 
 // What every drawing but a CLEAR is drawn with.
-#[derive(Drop)]
+#[derive(Clone, Copy)]
 pub struct Ink {
     pub colour: Colour,
     pub alpha: AlphaTest,
@@ -152,7 +152,7 @@ impl Ink {
     }
 }
 
-#[derive(Drop)]
+#[derive(Clone, Copy)]
 pub struct ClearValues {
     pub red: u32,
     pub green: u32,
@@ -176,7 +176,7 @@ impl ClearValues {
 }
 
 // The flags of a CLEAR, 0 or 1, and what it clears to.
-#[derive(Drop)]
+#[derive(Clone, Copy)]
 pub struct Clear {
     pub colour: u32,
     pub stencil: u32,

@@ -1,4 +1,6 @@
 // A drawing action: the values of one CLEAR, point, rectangle, bitmap or segment of a line, as documents 01 and 02 list them. Two actions are compared by these values alone.
+#![tactic(auto)]
+
 ghost use Rattle.std.specs.Prelude.{◌≡◌};
 ghost use Rattle.action.specs.Same.{Tells};
 
@@ -12,7 +14,7 @@ pub use ink::{
 pub use numbers::{Factor, Format, StencilAction, Test};
 pub use shape::{Area, Bitmap, End, Point, Rectangle, Segment};
 
-#[derive(Drop)]
+#[derive(Clone, Copy)]
 pub enum Drawing {
     Clear(Clear),
     Point(Point, Ink),
@@ -80,7 +82,7 @@ impl Drawing {
     }
 }
 
-#[derive(Drop)]
+#[derive(Clone, Copy)]
 pub struct Action {
     pub scissor: Area,
     pub masks: Masks,

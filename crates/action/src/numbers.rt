@@ -4,7 +4,7 @@ ghost use Rattle.std.specs.Prelude.{◌≡◌};
 ghost use Rattle.action.specs.Numbers.{test_of, test_number, stencil_action_of, stencil_action_number, factor_of, factor_number, format_of, format_number};
 ghost use Rattle.action.specs.Same.{Tells};
 
-#[derive(Drop)]
+#[derive(Clone, Copy)]
 pub enum Test {
     Never,
     Less,
@@ -17,6 +17,7 @@ pub enum Test {
 }
 
 impl Test {
+    #[tactic(auto, unfolding(crate::specs::Numbers::test_of))]
     pub fn of(n: u32) -> Test
         ensures { result ≡ test_of n }
     {
@@ -32,6 +33,7 @@ impl Test {
         }
     }
 
+    #[tactic(auto, unfolding(crate::specs::Numbers::test_number))]
     pub fn number(self) -> u32
         ensures { result ≡ test_number self }
     {
@@ -55,7 +57,7 @@ impl Test {
 }
 
 // What happens to the stored stencil.
-#[derive(Drop)]
+#[derive(Clone, Copy)]
 pub enum StencilAction {
     Zero,
     Keep,
@@ -66,6 +68,7 @@ pub enum StencilAction {
 }
 
 impl StencilAction {
+    #[tactic(auto, unfolding(crate::specs::Numbers::stencil_action_of))]
     pub fn of(n: u32) -> StencilAction
         ensures { result ≡ stencil_action_of n }
     {
@@ -79,6 +82,7 @@ impl StencilAction {
         }
     }
 
+    #[tactic(auto, unfolding(crate::specs::Numbers::stencil_action_number))]
     pub fn number(self) -> u32
         ensures { result ≡ stencil_action_number self }
     {
@@ -100,7 +104,7 @@ impl StencilAction {
 }
 
 // What a colour is multiplied by when it is blended.
-#[derive(Drop)]
+#[derive(Clone, Copy)]
 pub enum Factor {
     Zero,
     One,
@@ -111,6 +115,7 @@ pub enum Factor {
 }
 
 impl Factor {
+    #[tactic(auto, unfolding(crate::specs::Numbers::factor_of))]
     pub fn of(n: u32) -> Factor
         ensures { result ≡ factor_of n }
     {
@@ -124,6 +129,7 @@ impl Factor {
         }
     }
 
+    #[tactic(auto, unfolding(crate::specs::Numbers::factor_number))]
     pub fn number(self) -> u32
         ensures { result ≡ factor_number self }
     {
@@ -145,7 +151,7 @@ impl Factor {
 }
 
 // The formats that are drawn.
-#[derive(Drop)]
+#[derive(Clone, Copy)]
 pub enum Format {
     Argb1555,
     L8,
@@ -153,6 +159,7 @@ pub enum Format {
 }
 
 impl Format {
+    #[tactic(auto, unfolding(crate::specs::Numbers::format_of))]
     pub fn of(n: u32) -> Format
         ensures { result ≡ format_of n }
     {
@@ -163,6 +170,7 @@ impl Format {
         }
     }
 
+    #[tactic(auto, unfolding(crate::specs::Numbers::format_number))]
     pub fn number(self) -> u32
         ensures { result ≡ format_number self }
     {

@@ -8,7 +8,7 @@ use crate::numbers::Format;
 use units::{LengthInSixteenths, Pixels, Sixteenths, least, most};
 
 // Left and top are in, right and bottom are not: a top left pixel and a size, as document 01 has scissors and bitmaps, kept as where they end.
-#[derive(Drop)]
+#[derive(Clone, Copy)]
 pub struct Area {
     pub left: Pixels,
     pub top: Pixels,
@@ -27,7 +27,7 @@ impl Area {
     }
 }
 
-#[derive(Drop)]
+#[derive(Clone, Copy)]
 pub struct Point {
     pub x: Sixteenths,
     pub y: Sixteenths,
@@ -43,7 +43,7 @@ impl Point {
 }
 
 // The corners in order, x and y apart, and the line width.
-#[derive(Drop)]
+#[derive(Clone, Copy)]
 pub struct Rectangle {
     pub left: Sixteenths,
     pub top: Sixteenths,
@@ -84,7 +84,7 @@ impl Rectangle {
 }
 
 // An end of a line.
-#[derive(Drop)]
+#[derive(Clone, Copy)]
 pub struct End {
     pub x: Sixteenths,
     pub y: Sixteenths,
@@ -107,7 +107,7 @@ impl End {
 }
 
 // The ends in the order given, the line width, and the primitive: 3 for LINES, 4 for LINE_STRIP.
-#[derive(Drop)]
+#[derive(Clone, Copy)]
 pub struct Segment {
     pub from: End,
     pub to: End,
@@ -140,7 +140,7 @@ impl Segment {
 }
 
 // Where a bitmap is drawn, and how its cell lies in RAM_G: its first byte, format, stride and layout height.
-#[derive(Drop)]
+#[derive(Clone, Copy)]
 pub struct Bitmap {
     pub area: Area,
     pub start: u32,

@@ -9,13 +9,13 @@ use crate::vertex::{Vertex, place2f, place2ii};
 use words::Word;
 
 // A command obeyed leaves an event to tell or a vertex to draw.
-#[derive(Drop)]
+#[derive(Clone, Copy)]
 pub enum Then {
     Tell(Event),
     Place(Vertex),
 }
 
-#[derive(Drop)]
+#[derive(Clone, Copy)]
 pub struct Obeyed {
     pub machine: Machine,
     pub then: Then,

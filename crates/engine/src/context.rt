@@ -10,7 +10,7 @@ use action::{
 use units::{LengthInPixels, Pixels};
 
 // What every drawing but a CLEAR is drawn with: colour, tag, tests, stencil actions, blend.
-#[derive(Drop)]
+#[derive(Clone, Copy)]
 pub struct Brush {
     pub red: u32,
     pub green: u32,
@@ -30,7 +30,7 @@ pub struct Brush {
 
 // Where it is drawn and how large: scissor, sizes, what places a vertex, the current handle and cell. Every size and width is kept
 // as the plain number of its command, since a word that sets one is then a store and no more; it gets its count as a shape or an area is made of it.
-#[derive(Drop)]
+#[derive(Clone, Copy)]
 pub struct Placing {
     pub left: u32,
     pub top: u32,
@@ -45,7 +45,7 @@ pub struct Placing {
     pub cell: u32,
 }
 
-#[derive(Drop)]
+#[derive(Clone, Copy)]
 pub struct Context {
     pub brush: Brush,
     pub masks: Masks,

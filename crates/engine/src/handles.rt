@@ -16,7 +16,7 @@ use units::{LengthInPixels, Pixels};
 pub const SETTINGS: usize = 512;
 
 // What the words of one handle come to, main words and H words together.
-#[derive(Drop)]
+#[derive(Clone, Copy)]
 pub struct Handle {
     pub given: bool,
     pub source: u32,
@@ -128,7 +128,7 @@ pub fn cover(left: Pixels, top: Pixels, width: LengthInPixels, height: LengthInP
     }
 }
 
-#[derive(Drop)]
+#[derive(Clone, Copy)]
 pub enum Judged {
     Drawable(Bitmap),
     Undrawable,

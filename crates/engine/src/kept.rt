@@ -5,13 +5,13 @@ ghost use Rattle.engine.specs.Kept.{kept_with, newest, begun, pushed, popped, ca
 use crate::context::Context;
 use crate::machine::Machine;
 
-#[derive(Drop)]
+#[derive(Clone, Copy)]
 pub struct Kept {
     pub contexts: [Context; 4],
     pub count: usize,
 }
 
-#[derive(Drop)]
+#[derive(Clone, Copy)]
 pub struct Engine {
     pub now: Machine,
     pub kept: Kept,

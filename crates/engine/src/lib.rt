@@ -2,6 +2,8 @@
 //
 // `advance` goes on from an engine to the next drawing action, the end or the fault; `finish` runs a whole list to its end.
 // Their callers never see a word.
+#![tactic(auto)]
+
 mod command;
 mod context;
 mod drawn;

@@ -14,7 +14,7 @@ use words::Read;
 
 // `calls` holds the return addresses, newest first, and `depth` how many are open. `primitive` is BEGIN's number, 1 for BITMAPS, 2 for POINTS,
 // 3 for LINES, 4 for LINE_STRIP and 9 for RECTS, or 0 while none is begun.
-#[derive(Drop)]
+#[derive(Clone, Copy)]
 pub struct Machine {
     pub context: Context,
     pub calls: [u32; 4],
@@ -25,7 +25,7 @@ pub struct Machine {
 }
 
 // Which of colour, stencil and tag CLEAR clears.
-#[derive(Drop)]
+#[derive(Clone, Copy)]
 pub struct Flags {
     pub colour: u32,
     pub stencil: u32,
@@ -33,7 +33,7 @@ pub struct Flags {
 }
 
 // What is drawn; the rest of an action's values are the context's.
-#[derive(Drop)]
+#[derive(Clone, Copy)]
 pub enum Shape {
     Clear(Flags),
     Point(Point),
@@ -44,7 +44,7 @@ pub enum Shape {
 
 // What a word came to: nothing to tell, a context to save or to restore, a call to take or to return from, an action, the
 // list's end, or a number of document 01's table.
-#[derive(Drop)]
+#[derive(Clone, Copy)]
 pub enum Event {
     Quiet,
     Save,
@@ -56,7 +56,7 @@ pub enum Event {
     Fault(u32),
 }
 
-#[derive(Drop)]
+#[derive(Clone, Copy)]
 pub struct Stepped {
     pub machine: Machine,
     pub event: Event,

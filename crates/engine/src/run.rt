@@ -10,21 +10,21 @@ use crate::machine::{Event, Flags, Machine, Shape};
 use action::{Action, Clear, Drawing};
 
 // What a run stops with: its number in document 01's table, and the place that goes with it.
-#[derive(Drop)]
+#[derive(Clone, Copy)]
 pub struct Stop {
     pub number: u32,
     pub place: u32,
 }
 
 // What a run came to next: a drawing action, or its end.
-#[derive(Drop)]
+#[derive(Clone, Copy)]
 pub enum Find {
     Drew(Action),
     Over(Stop),
 }
 
 // `left` is how many words are still allowed.
-#[derive(Drop)]
+#[derive(Clone, Copy)]
 pub struct Advanced {
     pub engine: Engine,
     pub left: u32,
@@ -208,7 +208,7 @@ pub fn advance(
 }
 
 // How a run ends, and how many words it fetched.
-#[derive(Drop)]
+#[derive(Clone, Copy)]
 pub struct Ending {
     pub stop: Stop,
     pub count: u32,

@@ -11,7 +11,7 @@ use action::{End, Point, Rectangle, Segment};
 use units::{LengthInSixteenths, Pixels, Sixteenths};
 
 // A vertex placed on the screen, with the handle and cell that it draws if BITMAPS is begun.
-#[derive(Drop)]
+#[derive(Clone, Copy)]
 pub struct Vertex {
     pub x: Sixteenths,
     pub y: Sixteenths,
@@ -20,7 +20,7 @@ pub struct Vertex {
 }
 
 // A rectangle's first corner or a line's first end; `waits` is 1 while it waits for the second one, else 0.
-#[derive(Drop)]
+#[derive(Clone, Copy)]
 pub struct Corner {
     pub x: Sixteenths,
     pub y: Sixteenths,

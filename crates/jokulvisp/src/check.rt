@@ -12,7 +12,7 @@ const LARGEST_MEMORY: usize = 1048576;
 const MOST_STEPS: u32 = 65536;
 
 #[repr(C)]
-#[derive(Drop)]
+#[derive(Clone, Copy)]
 pub struct JvAnswer {
     pub number: u32,
     pub list: u32,

@@ -1,4 +1,6 @@
 // The calls for C, as include/jokulvisp.h declares them. Each answers for every input.
+#![tactic(auto)]
+
 ghost use Rattle.jokulvisp.specs.Words.{ReadAnswer, WriteAnswer, word_told};
 ghost use Rattle.std.specs.Prelude.{◌≡◌};
 
@@ -14,7 +16,7 @@ pub use ringing::{JvRing, jv_ring_reset, jv_ring_run, jv_ring_write};
 use words::{Spelling, Spelt, Written};
 
 #[repr(C)]
-#[derive(Drop)]
+#[derive(Clone, Copy)]
 pub struct JvWord {
     pub number: u32,
     pub command: u32,
@@ -26,7 +28,7 @@ pub struct JvWord {
 }
 
 #[repr(C)]
-#[derive(Drop)]
+#[derive(Clone, Copy)]
 pub struct JvBits {
     pub number: u32,
     pub bits: u32,

@@ -5,7 +5,7 @@ ghost use Rattle.jokulvisp.specs.Ring.{spread, RingRunAnswer, RingWriteAnswer, R
 use ring::{Answer, Marks};
 
 #[repr(C)]
-#[derive(Drop)]
+#[derive(Clone, Copy)]
 pub struct JvRing {
     pub number: u32,
     pub place: u32,

@@ -10,7 +10,7 @@ use shape::reach;
 pub const MOST: usize = 1024;
 
 // How many actions are kept, and whether these are all.
-#[derive(Drop)]
+#[derive(Clone, Copy)]
 pub struct Gathered {
     pub count: usize,
     pub all: bool,

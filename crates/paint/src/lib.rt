@@ -1,5 +1,7 @@
 // Rows of the picture that a list draws. The list is run once; then each row is drawn by itself, from 0, out of the actions
 // that reach it.
+#![tactic(auto)]
+
 ghost use Rattle.std.specs.Prelude.{◌≡◌, ◌<◌, ◌≤◌, ◌+◌, ◌*◌, length};
 ghost use Rattle.engine.specs.Run.{WithinLimits, actions_of};
 ghost use Rattle.units.specs.Units.{pixel_at, tallest, widest};

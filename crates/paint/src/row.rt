@@ -14,7 +14,7 @@ use units::Pixels;
 
 // The columns of a row that an action can reach, from the one on and before the other; which of them it does reach, the
 // chord tells.
-#[derive(Drop)]
+#[derive(Clone, Copy)]
 pub struct Stretch {
     pub from: usize,
     pub to: usize,
@@ -23,14 +23,14 @@ pub struct Stretch {
 }
 
 // Where the texels of a drawing come from.
-#[derive(Drop)]
+#[derive(Clone, Copy)]
 pub enum Texture {
     White,
     Of(Bitmap),
 }
 
 // What every drawing but a CLEAR is drawn with.
-#[derive(Drop)]
+#[derive(Clone, Copy)]
 pub struct Coat {
     pub texture: Texture,
     pub ink: Ink,

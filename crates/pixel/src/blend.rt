@@ -8,7 +8,7 @@ use crate::bytes::byte;
 use action::{Colour, Factor};
 
 // A colour in bytes: what texel and current colour come to.
-#[derive(Drop)]
+#[derive(Clone, Copy)]
 pub struct Shade {
     pub red: u8,
     pub green: u8,

@@ -15,14 +15,14 @@ pub const LATER: u8 = 2;
 pub const BESIDE: u8 = 3;
 
 // Which of the two lists goes on.
-#[derive(Drop)]
+#[derive(Clone, Copy)]
 pub struct Pace {
     pub old: bool,
     pub new: bool,
 }
 
 // Numbers that compare as what the two lists have ahead of them does.
-#[derive(Drop)]
+#[derive(Clone, Copy)]
 pub struct Ahead {
     pub old: u64,
     pub new: u64,

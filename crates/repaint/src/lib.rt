@@ -5,6 +5,8 @@
 // it is marked. One of them is then passed; a row that it reaches alone cannot be told in this walk and is left for
 // a later one. What still stands beside when both lists have ended is alike. Each walk settles the row that decides which
 // list goes on, so there are no more walks than rows; most often a changed word takes one, and an action put in two.
+#![tactic(auto)]
+
 ghost use Rattle.std.specs.Prelude.{◌≡◌, ◌+◌, ◌<◌, ◌≤◌, ◌*◌, length};
 ghost use Rattle.engine.specs.Run.{WithinLimits, actions_of, most_list};
 ghost use Rattle.paint.specs.Picture.{patched, row_colours, row_tags};

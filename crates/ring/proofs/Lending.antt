@@ -2,7 +2,7 @@
 use mathlib.Core.Path.{◌≡◌, sym, ◌∙◌, ap}
 use mathlib.Core.List.{List, [], ◌++◌, append-nil}
 use Prim.Native.Nat.{ℕ, ◌+◌, ◌-◌, ◌≤◌, zero-le}
-use native.Mathlib.Nat.{le_refl, zero-add}
+use native.Mathlib.Nat.{zero-add}
 use native.Mathlib.Omega.{arith}
 use lib.ListN.{length, take, drop, replicate, length-drop, length-replicate, drop_of_length-le}
 use lib.Seq.{drop-drop, take_all}
@@ -18,37 +18,27 @@ flooded at count b run new h e =
     let f : new ≡ replicate count b = e ∙ ap (λ (k : ℕ). replicate k b) n in
     sym (rw f (laid-lent at count (replicate count b) run h (length-replicate count b)))
 
--- a whole run copied over another of its length
-pub copied : (src dst : List ℕ) → length src ≡ length dst → take (length src) src ++ drop (length src) dst ≡ src
-copied src dst e =
-    let n : length dst ≤ length src = omega arith in
-    rw (take_all (length src) src (le_refl _), drop_of_length-le dst n, append-nil)
-
 -- a run copied over a part of another
-pub copied-over : (at count : ℕ) (run src new : List ℕ) → at + count ≤ length run → length src ≡ count
-    → new ≡ take (length src) src ++ drop (length src) (take (at + count - at) (drop at run))
+pub copied-over : (at count : ℕ) (run src new : List ℕ) → at + count ≤ length run → length src ≡ count → new ≡ src
     → laid at src run ≡ take at run ++ (new ++ drop (at + count - at) (drop at run))
-copied-over at count run src new h n e =
-    let f : new ≡ src = e ∙ copied src (take (at + count - at) (drop at run)) (n ∙ sym (lent-part-long at count run h)) in
-    sym (rw f (laid-lent at count src run h n))
+copied-over at count run src new h n e = sym (rw e (laid-lent at count src run h n))
 
 -- a part of one run copied over a part of another
 pub copied-part : (at count : ℕ) (run : List ℕ) (source : ℕ) (from new : List ℕ) → at + count ≤ length run → source + count ≤ length from
-    → new ≡ take (length (take (source + count - source) (drop source from))) (take (source + count - source) (drop source from))
-    ++ drop (length (take (source + count - source) (drop source from))) (take (at + count - at) (drop at run))
+    → new ≡ take (source + count - source) (drop source from)
     → laid at (part source count from) run ≡ take at run ++ (new ++ drop (at + count - at) (drop at run))
 copied-part at count run source from new h k e =
     copied-over at count run (part source count from) new h (part-long source count from k) (rw (lent-part source count from) at e)
 
 -- bytes copied over the end of a run, from a place on
 pub copied_tail : (at : ℕ) (run src new : List ℕ) → at + length src ≤ length run
-    → new ≡ take (length src) src ++ drop (length src) (take (length run - at) (drop at run))
+    → new ≡ src ++ drop (length src) (take (length run - at) (drop at run))
     → take at run ++ (new ++ drop (length run - at) (drop at run)) ≡ laid at src run
 unfolding laid
 copied_tail at run src new h e =
     let t : take (length run - at) (drop at run) ≡ drop at run = take_all (length run - at) (drop at run) (simp length-drop (omega arith)) in
     let n : drop (length run - at) (drop at run) ≡ [] = drop_of_length-le (drop at run) {i = length run - at} (simp length-drop (omega arith)) in
-    rw (e, t, n, append-nil, take_all (length src) src (le_refl _), drop-drop)
+    rw (e, t, n, append-nil, drop-drop)
 
 -- bytes that end before the ring does, and bytes that go on from its start
 pub short-around : (at : ℕ) (words ring : List ℕ) → length ring ≡ 4096 → at + length words ≤ 4096 → laid_around at words ring ≡ laid at words ring
@@ -58,6 +48,6 @@ short-around at words ring n h =
     rw (d, take_all (4096 - at) words (omega arith)) (laid_none 0 (laid at words ring) zero-le)
 
 pub long-around : (at : ℕ) (words ring ring' : List ℕ) → ring' ≡ laid at (take (4096 - at) words) ring
-    → laid_around at words ring ≡ take (length (drop (4096 - at) words)) (drop (4096 - at) words) ++ drop (length (drop (4096 - at) words)) ring'
+    → laid_around at words ring ≡ drop (4096 - at) words ++ drop (length (drop (4096 - at) words)) ring'
 unfolding laid_around laid
-long-around at words ring ring' e = rw (e, take_all (length (drop (4096 - at) words)) (drop (4096 - at) words) (le_refl _), zero-add)
+long-around at words ring ring' e = rw (e, zero-add)

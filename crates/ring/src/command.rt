@@ -7,7 +7,7 @@ ghost use Rattle.ring.specs.Ring.{words_from};
 
 use crate::marks::word_from;
 
-#[derive(Drop)]
+#[derive(Clone, Copy)]
 pub enum Command {
     Plain,
     DlStart,
@@ -21,12 +21,13 @@ pub enum Command {
 }
 
 // Taken, with number 0 or 31 and the list offset after it, or a fault with its number.
-#[derive(Drop)]
+#[derive(Clone, Copy)]
 pub enum Outcome {
     Taken { number: u32, offset: u32 },
     Fault { number: u32 },
 }
 
+#[tactic(auto, unfolding(crate::specs::Command::command_of))]
 pub fn command_of(word: u32) -> Command
     ensures { result ≡ command_of word }
 {
@@ -45,6 +46,7 @@ pub fn command_of(word: u32) -> Command
     }
 }
 
+#[tactic(auto, unfolding(crate::specs::Command::size_of))]
 pub fn size_of(command: Command) -> u32
     ensures { result ≡ size_of command }
 {
@@ -62,12 +64,14 @@ pub fn size_of(command: Command) -> u32
 }
 
 // A sum of two numbers of 32 bits, which does not wrap in 64.
+#[tactic(auto, unfolding(crate::specs::Command::is_inside))]
 fn is_inside(at: u32, count: u32, memory: &[u8]) -> bool
     ensures { result ≡ is_inside at count memory.now }
 {
     at as u64 + count as u64 <= memory.len() as u64
 }
 
+#[tactic(auto, unfolding(crate::specs::Command::stored))]
 fn fill(memory: &mut [u8], at: u32, count: u32, value: u32, offset: u32) -> Outcome
     requires { length memory.old ≤ 2 ^ 20 }
     ensures { Stores (is_inside at count memory.old) at (replicate count (value % 2 ^ 8)) offset memory.old result memory.new }
@@ -84,6 +88,7 @@ fn fill(memory: &mut [u8], at: u32, count: u32, value: u32, offset: u32) -> Outc
     }
 }
 
+#[tactic(auto, unfolding(crate::specs::Command::stored))]
 fn copy(memory: &mut [u8], target: u32, source: u32, count: u32, offset: u32) -> Outcome
     requires { length memory.old ≤ 2 ^ 20 }
     ensures { Stores (is_inside target count memory.old && is_inside source count memory.old) target (part source count memory.old) offset memory.old result memory.new }
@@ -98,6 +103,7 @@ fn copy(memory: &mut [u8], target: u32, source: u32, count: u32, offset: u32) ->
     }
 }
 
+#[tactic(auto, unfolding(crate::specs::Command::listed, runs::specs::Runs::bytes_of))]
 fn list_word(word: u32, offset: u32, list: &mut [u8]) -> Outcome
     requires { (offset ≤ 8192) × (length list.old ≡ 8192) }
     ensures { Lists (bytes_of word) offset list.old result list.new }
@@ -126,7 +132,7 @@ fn append(memory: &[u8], at: u32, count: u32, offset: u32, list: &mut [u8]) -> O
     let end = start + count as usize;
     let first = offset as usize;
     let past = first + count as usize;
-    bytes::copy(&memory[start..end], &mut list[first..past]);
+    list[first..past].copy_from_slice(&memory[start..end]);
     Outcome::Taken {
         number: 0,
         offset: offset + count,
@@ -134,6 +140,7 @@ fn append(memory: &[u8], at: u32, count: u32, offset: u32, list: &mut [u8]) -> O
 }
 
 // Obeys the command whose words begin at the place `read` of the ring.
+#[tactic(auto, unfolding(crate::specs::Command::does, crate::specs::Command::size_of))]
 pub fn obey(
     command: Command,
     ring: &[u8],
@@ -154,7 +161,7 @@ pub fn obey(
             offset: 0,
         },
         Command::Swap => {
-            bytes::copy(list, shown);
+            shown.copy_from_slice(list);
             Outcome::Taken {
                 number: 31,
                 offset: offset,

@@ -1,6 +1,9 @@
 // The coprocessor's command ring: the run over ring, RAM_DL, shown list and RAM_G, the host's words, and the reset. Each
 // answers for every input.
-ghost use Rattle.std.specs.Prelude.{◌≡◌, true, ◌≤◌, length};
+
+#![tactic(auto)]
+
+ghost use Rattle.std.specs.Prelude.{◌≡◌, true, ◌++◌, ◌≤◌, drop, length};
 ghost use Rattle.ring.specs.Command.{lent};
 ghost use Rattle.ring.specs.Host.{put, laid_around, Puts, reset as reset_to};
 ghost use Rattle.ring.specs.Ring.{are_places};
@@ -99,12 +102,14 @@ fn run_all(
     }
 }
 
+#[tactic(auto, unfolding(crate::specs::Run::are_sized))]
 fn are_sized(ring: usize, list: usize, shown: usize, memory: usize) -> bool
     ensures { result ≡ are_sized ring list shown memory }
 {
     (ring == 4096) & (list == 8192) & (shown == 8192) & (memory <= 1048576)
 }
 
+#[tactic(auto, unfolding(crate::specs::Run::ran, crate::specs::Ring::is_free))]
 pub fn run(
     ring: &[u8],
     list: &mut [u8],
@@ -126,6 +131,14 @@ pub fn run(
     run_all(ring, list, shown, memory, marks)
 }
 
+// Copies all of a run to the front of another, which may be longer.
+fn copy(src: &[u8], dst: &mut [u8])
+    requires { length src.now ≤ length dst.old }
+    ensures { dst.new ≡ src.now ++ drop (length src.now) dst.old }
+{
+    dst[..src.len()].copy_from_slice(src);
+}
+
 // Puts the bytes into the ring from a place on, and past its end from its start on.
 fn lay_around(at: u32, words: &[u8], ring: &mut [u8])
     requires { (length ring.old ≡ 4096) × ((at ≤ 4092) × (length words.now ≤ 4092)) }
@@ -134,11 +147,11 @@ fn lay_around(at: u32, words: &[u8], ring: &mut [u8])
     let start = at as usize;
     let before_end = 4096 - start;
     if words.len() <= before_end {
-        bytes::copy(words, &mut ring[start..]);
+        copy(words, &mut ring[start..]);
         return;
     }
-    bytes::copy(&words[..before_end], &mut ring[start..]);
-    bytes::copy(&words[before_end..], ring);
+    copy(&words[..before_end], &mut ring[start..]);
+    copy(&words[before_end..], ring);
 }
 
 // Puts the host's words into the ring, behind those that wait.

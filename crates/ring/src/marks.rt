@@ -2,7 +2,7 @@
 ghost use Rattle.std.specs.Prelude.{◌≡◌, true, ◌≤◌, length};
 ghost use Rattle.ring.specs.Ring.{around as led, waiting as waits, reported as shows, are_places, is_place, word_from};
 
-#[derive(Drop)]
+#[derive(Clone, Copy)]
 pub struct Marks {
     pub read: u32,
     pub write: u32,
@@ -10,7 +10,7 @@ pub struct Marks {
     pub fault: u32,
 }
 
-#[derive(Drop)]
+#[derive(Clone, Copy)]
 pub struct Answer {
     pub number: u32,
     pub place: u32,
@@ -18,6 +18,7 @@ pub struct Answer {
     pub marks: Marks,
 }
 
+#[tactic(auto, unfolding(crate::specs::Ring::around))]
 pub fn around(at: u32, bytes: u32) -> u32
     requires { (at ≤ 4096) × (bytes ≤ 4096) }
     ensures { result ≡ led at bytes }
@@ -31,6 +32,7 @@ fn is_place(most: u32, at: u32) -> bool
     (at % 4 == 0) & (at <= most)
 }
 
+#[tactic(auto, unfolding(crate::specs::Ring::are_places))]
 pub fn are_places(marks: Marks) -> bool
     ensures { result ≡ are_places marks }
 {
@@ -38,6 +40,7 @@ pub fn are_places(marks: Marks) -> bool
 }
 
 // The read mark as the chip shows it.
+#[tactic(auto, unfolding(crate::specs::Ring::reported, crate::specs::Ring::is_free))]
 pub fn reported(marks: Marks) -> u32
     ensures { result ≡ shows marks }
 {
@@ -54,6 +57,7 @@ pub fn waiting(marks: Marks) -> u32
     around(4096 - marks.read, marks.write)
 }
 
+#[tactic(auto, unfolding(crate::specs::Ring::word_from))]
 pub fn word_from(ring: &[u8], at: u32, k: u32) -> u32
     requires { (length ring.now ≡ 4096) × ((at ≤ 4092) × (k ≤ 3)) }
     ensures { result ≡ word_from ring.now at k }

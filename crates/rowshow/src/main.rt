@@ -1,5 +1,7 @@
 // Draws row 0 of a 4 by 1 frame, with a limit of 64 words and no graphics memory, from the list on standard input, and
 // prints the answer and the row.
+#![tactic(auto)]
+
 ghost use Rattle.std.specs.Prelude.{◌≤◌, length, take};
 ghost use Rattle.io.specs.Counts.{IsPrefixLen};
 ghost use Rattle.rowshow.specs.Show.{Shows};

@@ -1,4 +1,6 @@
 // Runs of bytes: words read from them and stored in them, and bytes moved within them.
+#![tactic(auto)]
+
 ghost use Rattle.std.specs.Prelude.{◌≡◌, ◌+◌, ◌<◌, ◌≤◌, get_or, length, replicate};
 ghost use Rattle.runs.specs.Runs.{word_at, bytes_of, laid, part};
 

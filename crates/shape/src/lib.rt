@@ -1,4 +1,6 @@
 // What an action covers, colours apart: row by row, so that a painter asks about few rows, and about few columns of each.
+#![tactic(auto)]
+
 ghost use Rattle.std.specs.Prelude.{◌≡◌};
 ghost use Rattle.shape.specs.Cover.{outside, between, reaches_row};
 ghost use Rattle.shape.specs.Lines.{OnScreen};
@@ -18,7 +20,7 @@ const LAST_SIXTEENTH: u64 = 0xFFFF_FFFF_FFFF_FFFF;
 // No size is larger.
 const LONGEST: u64 = 0xFFFF_FFFF;
 
-#[derive(Drop)]
+#[derive(Clone, Copy)]
 pub enum Outline {
     Nothing,
     Everything,
@@ -30,7 +32,7 @@ pub enum Outline {
 
 // One row of an outline. No column left of `left` or from `right` on is covered, and one between them is exactly if its sample is not too far from
 // `near`..`far`: the squared distance is below `room`.
-#[derive(Drop)]
+#[derive(Clone, Copy)]
 pub struct Chord {
     pub left: Pixels,
     pub right: Pixels,
@@ -40,7 +42,7 @@ pub struct Chord {
 }
 
 // The rows that can be covered: `top` is in, `bottom` is not.
-#[derive(Drop)]
+#[derive(Clone, Copy)]
 pub struct Rows {
     pub top: Pixels,
     pub bottom: Pixels,

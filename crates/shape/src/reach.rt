@@ -9,7 +9,7 @@ use action::{Action, Drawing};
 use units::{Pixels, TALLEST, least, most};
 
 // Rows of the frame: top is in, bottom is not.
-#[derive(Drop)]
+#[derive(Clone, Copy)]
 pub struct Band {
     pub top: u32,
     pub bottom: u32,

@@ -7,6 +7,8 @@
 //     and       21 a point's size, a rectangle's or a segment's width or a bitmap's start; 22 a segment's primitive, or 22 to 24 a bitmap's
 //               format, stride and height
 //   places    0 to 3 the scissor; 4 to 7 a rectangle's corners, a segment's ends or a bitmap's area, 4 and 5 where a point lies
+#![tactic(auto)]
+
 ghost use Rattle.store.specs.Store.{Room, Put, kept_at};
 ghost use Rattle.std.specs.Prelude.{◌≡◌};
 

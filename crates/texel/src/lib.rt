@@ -1,4 +1,6 @@
 // One texel of a cell in RAM_G: formats, widening, and what lies past stride or layout height. Where it is drawn is not known here.
+#![tactic(auto)]
+
 ghost use Rattle.std.specs.Prelude.{◌≡◌, ◌+◌, ◌*◌, ◌/◌, ◌<◌};
 ghost use Rattle.texel.specs.Texel.{pixel_bytes, channel, byte_at, rgb565, argb1555, l8, none, texel_at};
 ghost use Rattle.texel.specs.Widen.{OfBits, widened};

@@ -5,7 +5,7 @@ ghost use Rattle.words.specs.Table.{row_of};
 ghost use Rattle.words.specs.Layout.{layout_of};
 
 // What the numbers of a field name, where not every one has a meaning.
-#[derive(Drop)]
+#[derive(Clone, Copy)]
 pub enum Meaning {
     Function,
     StencilAction,
@@ -17,7 +17,7 @@ pub enum Meaning {
 }
 
 // A field so many bits wide: any number, a number with a meaning, or a number in two's complement.
-#[derive(Drop)]
+#[derive(Clone, Copy)]
 pub enum Field {
     Bits(u32),
     Only(u32, Meaning),
@@ -25,7 +25,7 @@ pub enum Field {
 }
 
 // The fields of a command from the high bits down.
-#[derive(Drop)]
+#[derive(Clone, Copy)]
 pub enum Layout {
     NoCommand,
     None,
@@ -187,6 +187,7 @@ pub fn width_of(field: Field) -> u32
     }
 }
 
+#[tactic(auto, unfolding(crate::specs::Fields::holds_signed))]
 fn is_held_signed(half: u32, n: u32) -> bool
     ensures { result ≡ holds_signed half n }
 {
@@ -194,6 +195,7 @@ fn is_held_signed(half: u32, n: u32) -> bool
 }
 
 // Whether the field's bits hold the number, and it has a meaning there.
+#[tactic(auto, unfolding(crate::specs::Fields::holds))]
 pub fn is_held(field: Field, n: u32) -> bool
     requires { width field < 32 }
     ensures { result ≡ holds field n }

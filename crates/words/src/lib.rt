@@ -2,6 +2,8 @@
 //
 // `read_word` gives the command of a word. `spell_bits` gives it as plain numbers, which is how C passes it, and `write_spelling`
 // gives the word of such numbers.
+#![tactic(auto)]
+
 mod field;
 mod reading;
 mod spelling;

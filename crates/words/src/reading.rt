@@ -8,13 +8,14 @@ use crate::field::{Meaning, is_meant};
 use crate::word::Word;
 
 // Numbers 0, 11 and 12 of document 01's table.
-#[derive(Drop)]
+#[derive(Clone, Copy)]
 pub enum Read {
     Command(Word),
     NoCommand,
     NoMeaning,
 }
 
+#[tactic(auto, unfolding(crate::specs::Words::checked))]
 fn checked(ok: bool, word: Word) -> Read
     ensures { result ≡ checked ok word }
 {
@@ -123,6 +124,7 @@ fn read_vertex_format(w: u32) -> Read
 }
 
 // A word whose two top bits are 0: the top byte names the command.
+#[tactic(auto, unfolding(crate::specs::Words::checked))]
 fn read_by_byte(w: u32) -> Read
     requires { w < 2 ^ 30 }
     ensures { result ≡ read_as (row_of (w / 2 ^ 24)) w }
@@ -229,6 +231,7 @@ fn read_by_byte(w: u32) -> Read
     }
 }
 
+#[tactic(auto, unfolding(crate::specs::Words::read_word, crate::specs::Words::checked))]
 pub fn read_word(w: u32) -> Read
     ensures { result ≡ read_word w }
 {

@@ -1,4 +1,4 @@
 // A command as plain numbers: its number, then the numbers of its fields from the high bits down, a signed one as 32 bits in two's
 // complement and 0 for a field that the command does not have.
-#[derive(Drop)]
+#[derive(Clone, Copy)]
 pub struct Spelling(pub u32, pub u32, pub u32, pub u32, pub u32, pub u32);

@@ -10,7 +10,7 @@ use crate::field::{Field, Layout, fields_of, is_meaningful, low_bits, power, wid
 use crate::spelling::Spelling;
 
 // Numbers 0, 11 and 12 of document 01's table.
-#[derive(Drop)]
+#[derive(Clone, Copy)]
 pub enum Spelt {
     Fields(Spelling),
     NoCommand,
@@ -18,7 +18,7 @@ pub enum Spelt {
 }
 
 // A field's number; the field's bits and those below it are `used` bits.
-#[derive(Drop)]
+#[derive(Clone, Copy)]
 pub struct Piece {
     pub number: u32,
     pub used: u32,
@@ -100,6 +100,7 @@ fn are_meaningful(s: Spelling, a: Field, b: Field, c: Field, d: Field, e: Field)
             & (is_meaningful(c, s.3) & (is_meaningful(d, s.4) & is_meaningful(e, s.5))))
 }
 
+#[tactic(auto, unfolding(crate::specs::Words::spelt))]
 fn spell_fields(number: u32, w: u32, a: Field, b: Field, c: Field, d: Field, e: Field) -> Spelt
     requires { Cuttable (five a b c d e) }
     ensures { result ≡ decoded number (five a b c d e) w }

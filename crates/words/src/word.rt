@@ -1,6 +1,6 @@
 // A command of a display list, with its fields by the guide's names, from the high bits down. A field is signed where
 // the guide calls it so.
-#[derive(Drop)]
+#[derive(Clone, Copy)]
 pub enum Word {
     Vertex2f {
         x: i32,

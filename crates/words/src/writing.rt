@@ -9,7 +9,7 @@ use crate::field::{Field, Layout, fields_of, is_held, low_bits, power, width_of}
 use crate::spelling::Spelling;
 
 // Numbers 0, 11 and 12 of document 01's table.
-#[derive(Drop)]
+#[derive(Clone, Copy)]
 pub enum Written {
     Bits(u32),
     NoCommand,
@@ -17,7 +17,7 @@ pub enum Written {
 }
 
 // The lowest bits of a word, `used` of them.
-#[derive(Drop)]
+#[derive(Clone, Copy)]
 pub struct Packed {
     pub bits: u32,
     pub used: u32,
@@ -59,6 +59,7 @@ fn is_fit(s: Spelling, a: Field, b: Field, c: Field, d: Field, e: Field) -> bool
     is_held(a, s.1) & (is_held(b, s.2) & (is_held(c, s.3) & (is_held(d, s.4) & is_held(e, s.5))))
 }
 
+#[tactic(auto, unfolding(crate::specs::Words::written))]
 fn encode(s: Spelling, a: Field, b: Field, c: Field, d: Field, e: Field) -> Written
     requires { (s.0 ≤ 128) × (total (five a b c d e) ≤ 30) }
     ensures { result ≡ encoded (five a b c d e) s }

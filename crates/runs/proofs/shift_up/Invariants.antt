@@ -1,0 +1,13 @@
+use mathlib.Core.Path.{◌≡◌}
+use Prim.Native.Nat.{◌+◌, ◌-◌, ◌≤◌}
+use lib.ListN.{length}
+use Rattle.runs.specs.Runs.{laid, part}
+use Rattle.runs.proofs.shift_up.Given as goal
+
+abbrev pub invariant-loop-i : goal.invariant-loop-i
+invariant-loop-i l =
+    (l.i ≤ l.count) × ((l.run ≡ laid (l.target + l.i) (part (l.source + l.i) (l.count - l.i) l.initial.run) l.initial.run) × (length l.run ≡ length l.initial.run))
+
+abbrev pub decreases-loop-i : goal.decreases-loop-i
+decreases-loop-i l =
+    l.i
