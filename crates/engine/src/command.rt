@@ -34,6 +34,7 @@ fn clear_event(colour: u32, stencil: u32, tag: u32) -> Event
 
 impl Machine {
     // What a command does. Those that are not drawn yet give 13, by the word alone.
+    #[tactic(auto, unfolding(crate::specs::Command::obeys))]
     pub fn obey(mut self, handles: &mut [u32; SETTINGS], word: Word) -> Obeyed
         ensures { (result ≡ (obeys self handles.old word).obeyed) × (handles.new ≡ (obeys self handles.old word).handles) }
     {

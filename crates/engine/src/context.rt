@@ -111,6 +111,7 @@ impl Context {
         }
     }
 
+    #[tactic(auto, unfolding(crate::specs::Context::ink_of))]
     pub fn ink(self) -> Ink
         ensures { result ≡ ink_of self.brush }
     {
@@ -148,6 +149,7 @@ impl Context {
         }
     }
 
+    #[tactic(auto, unfolding(crate::specs::Context::scissor_of))]
     pub fn scissor(self) -> Area
         ensures { result ≡ scissor_of self.placing }
     {

@@ -43,6 +43,7 @@ fn get(handles: &[u32; SETTINGS], handle: u32, place: u32) -> u32
     handles[k]
 }
 
+#[tactic(auto, unfolding(crate::specs::Handles::sourced))]
 pub fn put_source(handles: &mut [u32; SETTINGS], handle: u32, address: u32)
     ensures { handles.new ≡ sourced handles.old handle address }
 {
@@ -50,6 +51,7 @@ pub fn put_source(handles: &mut [u32; SETTINGS], handle: u32, address: u32)
     put(handles, handle, 1, address);
 }
 
+#[tactic(auto, unfolding(crate::specs::Handles::laid_out))]
 pub fn put_layout(handles: &mut [u32; SETTINGS], handle: u32, format: u32, stride: u32, height: u32)
     ensures { handles.new ≡ laid_out handles.old handle format stride height }
 {
@@ -59,6 +61,7 @@ pub fn put_layout(handles: &mut [u32; SETTINGS], handle: u32, format: u32, strid
     put(handles, handle, 5, height);
 }
 
+#[tactic(auto, unfolding(crate::specs::Handles::sized))]
 pub fn put_size(handles: &mut [u32; SETTINGS], handle: u32, width: u32, height: u32)
     ensures { handles.new ≡ sized handles.old handle width height }
 {
@@ -67,6 +70,7 @@ pub fn put_size(handles: &mut [u32; SETTINGS], handle: u32, width: u32, height: 
     put(handles, handle, 8, height);
 }
 
+#[tactic(auto, unfolding(crate::specs::Handles::laid_out_high))]
 pub fn put_layout_high(handles: &mut [u32; SETTINGS], handle: u32, stride: u32, height: u32)
     ensures { handles.new ≡ laid_out_high handles.old handle stride height }
 {
@@ -74,6 +78,7 @@ pub fn put_layout_high(handles: &mut [u32; SETTINGS], handle: u32, stride: u32, 
     put(handles, handle, 10, height);
 }
 
+#[tactic(auto, unfolding(crate::specs::Handles::sized_high))]
 pub fn put_size_high(handles: &mut [u32; SETTINGS], handle: u32, width: u32, height: u32)
     ensures { handles.new ≡ sized_high handles.old handle width height }
 {
@@ -82,6 +87,7 @@ pub fn put_size_high(handles: &mut [u32; SETTINGS], handle: u32, width: u32, hei
 }
 
 // A number whose low bits are in one place and whose high bits, which count so many times as much, in another.
+#[tactic(auto, unfolding(crate::specs::Handles::joined))]
 fn joined(handles: &[u32; SETTINGS], handle: u32, low: u32, high: u32, power: u32) -> u64
     requires { (low < 16) × ((high < 16) × (power ≤ 1024)) }
     ensures value { result ≡ joined handles.now handle low high power }
@@ -92,12 +98,14 @@ fn joined(handles: &[u32; SETTINGS], handle: u32, low: u32, high: u32, power: u3
     below as u64 + power as u64 * above as u64
 }
 
+#[tactic(auto, unfolding(crate::specs::Handles::given))]
 fn is_given(handles: &[u32; SETTINGS], handle: u32) -> bool
     ensures { result ≡ given handles.now handle }
 {
     (get(handles, handle, 0) == 1) & (get(handles, handle, 2) == 1) & (get(handles, handle, 6) == 1)
 }
 
+#[tactic(auto, unfolding(crate::specs::Handles::handle_at))]
 pub fn handle_at(handles: &[u32; SETTINGS], handle: u32) -> Handle
     ensures value { result ≡ handle_at handles.now handle }
     ensures narrow { Narrow result }
@@ -114,6 +122,7 @@ pub fn handle_at(handles: &[u32; SETTINGS], handle: u32) -> Handle
 }
 
 // The pixels from a top left one on, so many wide and high.
+#[tactic(auto, unfolding(crate::specs::Handles::cover_of))]
 pub fn cover(left: Pixels, top: Pixels, width: LengthInPixels, height: LengthInPixels) -> Area
     requires { ((left.0 < 2 ^ 63) × (top.0 < 2 ^ 63)) × ((width.0 < 2 ^ 63) × (height.0 < 2 ^ 63)) }
     ensures { result ≡ cover_of left top width height }
@@ -136,6 +145,7 @@ pub enum Judged {
 
 // Number 18, or the bitmap that the vertex draws. A stride, a height or a cell longer than RAM_G is refused before it is
 // multiplied, so that no product is too large for its type.
+#[tactic(auto, unfolding(crate::specs::Handles::bitmap_of))]
 pub fn judge(h: Handle, v: Vertex, memory: u32) -> Judged
     requires { Narrow h × (memory ≤ most_memory) }
     ensures { result ≡ judged h v memory }

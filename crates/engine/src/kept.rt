@@ -19,6 +19,7 @@ pub struct Engine {
 
 impl Kept {
     // One context more; a fifth drops the earliest. Each place is written by its own number, so that the others stay where they are.
+    #[tactic(auto, unfolding(crate::specs::Kept::kept_with))]
     pub fn push(mut self, context: Context) -> Kept
         ensures { result ≡ kept_with self context }
     {
@@ -72,6 +73,7 @@ impl Engine {
     }
 
     // SAVE_CONTEXT.
+    #[tactic(auto, unfolding(crate::specs::Kept::pushed))]
     pub fn push(mut self) -> Engine
         ensures { result ≡ pushed self }
     {
@@ -83,6 +85,7 @@ impl Engine {
     }
 
     // RESTORE_CONTEXT. The context that it loads is handed over, since looking it up in here would copy all that are kept.
+    #[tactic(auto, unfolding(crate::specs::Kept::popped, crate::specs::Kept::dropped))]
     pub fn pop(mut self, context: Context) -> Engine
         requires { context ≡ newest self.kept }
         ensures { result ≡ popped self }
@@ -100,6 +103,7 @@ impl Engine {
     }
 
     // CALL: the place, which is past the word, is the return address.
+    #[tactic(auto, unfolding(crate::specs::Kept::called))]
     pub fn call(mut self, to: u32) -> Engine
         requires { self.now.depth < 4 }
         ensures { result ≡ called self to }
@@ -118,6 +122,7 @@ impl Engine {
     }
 
     // RETURN: to the newest call's return address.
+    #[tactic(auto, unfolding(crate::specs::Kept::returned))]
     pub fn back(mut self) -> Engine
         requires { 0 < self.now.depth }
         ensures { result ≡ returned self }

@@ -85,6 +85,7 @@ impl Machine {
     }
 
     // A word read and obeyed.
+    #[tactic(auto, unfolding(crate::specs::Machine::steps))]
     pub fn step(self, handles: &mut [u32; SETTINGS], memory: u32, bits: u32) -> Stepped
         requires { memory ≤ most_memory }
         ensures { (result ≡ (steps self handles.old memory bits).stepped) × (handles.new ≡ (steps self handles.old memory bits).handles) }

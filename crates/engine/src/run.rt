@@ -49,6 +49,7 @@ fn clear(context: Context, flags: Flags) -> Clear
     }
 }
 
+#[tactic(auto, unfolding(crate::specs::Run::drawing_of))]
 fn draw(context: Context, shape: Shape) -> Drawing
     ensures { result ≡ drawing_of context shape }
 {
@@ -61,6 +62,7 @@ fn draw(context: Context, shape: Shape) -> Drawing
     }
 }
 
+#[tactic(auto, unfolding(crate::specs::Run::action_of))]
 fn act(context: Context, shape: Shape) -> Action
     ensures { result ≡ action_of context shape }
 {
@@ -110,6 +112,7 @@ fn drew(now: Machine, kept: Kept, left: u32, shape: Shape) -> Advanced
 }
 
 // Whether a context is kept that a restore can load.
+#[tactic(auto, unfolding(crate::specs::Advance::is_kept))]
 fn is_kept(count: usize) -> bool
     ensures { result ≡ is_kept count }
 {

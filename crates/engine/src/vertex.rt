@@ -41,6 +41,7 @@ fn unit(frac: u32) -> u32
     }
 }
 
+#[tactic(auto, unfolding(crate::specs::Vertex::placed2f))]
 pub fn place2f(p: Placing, x: i32, y: i32) -> Vertex
     ensures { result ≡ placed2f p x y }
 {
@@ -55,6 +56,7 @@ pub fn place2f(p: Placing, x: i32, y: i32) -> Vertex
     }
 }
 
+#[tactic(auto, unfolding(crate::specs::Vertex::placed2ii))]
 pub fn place2ii(p: Placing, x: u32, y: u32, handle: u32, cell: u32) -> Vertex
     ensures { result ≡ placed2ii p x y handle cell }
 {
@@ -69,6 +71,7 @@ pub fn place2ii(p: Placing, x: u32, y: u32, handle: u32, cell: u32) -> Vertex
 }
 
 // The segment from the open end to the vertex.
+#[tactic(auto, unfolding(crate::specs::Vertex::segment_from))]
 fn segment(c: Corner, v: Vertex, width: u32, primitive: u32) -> Segment
     ensures { result ≡ segment_from c v width primitive }
 {
@@ -122,6 +125,7 @@ fn rectangle_event(c: Corner, v: Vertex, width: u32) -> Event
     Event::Draw(Shape::Rectangle(drawn))
 }
 
+#[tactic(auto, unfolding(crate::specs::Vertex::segmented))]
 fn segment_event(c: Corner, v: Vertex, width: u32, primitive: u32) -> Event
     ensures { result ≡ segmented (segment_from c v width primitive) }
 {
@@ -144,6 +148,7 @@ fn bitmap_event(h: Handle, v: Vertex, memory: u32) -> Event
 
 impl Machine {
     // What a vertex draws. Its handle and cell are looked at only while BITMAPS is begun.
+    #[tactic(auto, unfolding(crate::specs::Vertex::vertexed))]
     pub fn vertex(mut self, handles: &[u32; SETTINGS], memory: u32, v: Vertex) -> Stepped
         requires { memory ≤ most_memory }
         ensures { result ≡ vertexed self handles.now memory v }
