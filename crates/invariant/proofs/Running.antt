@@ -10,7 +10,7 @@ use Rattle.engine.specs.declared.context.Context.{Context}
 use Rattle.engine.specs.declared.machine.Event.{Event}
 use Rattle.engine.specs.declared.machine.Event.TheVariants as e
 use Rattle.engine.specs.declared.machine.Machine.{Machine}
-use Rattle.engine.specs.Run.{State, place_of, event_of, next_of, action_of, Ran, after, run}
+use Rattle.engine.specs.Run.{State, place_of, step_of, event_of, next_of, action_of, Ran, after, run}
 use Rattle.invariant.specs.Actions.{Orderly}
 use Rattle.invariant.specs.Each.{Each}
 use Rattle.invariant.specs.State.{Aligned, Valid}
@@ -38,6 +38,6 @@ run-valid list memory zero x v = record { place = v.now.place; actions = tt }
 run-valid list memory (suc n) x v =
     by-test ValidRan (ltb (place_of x) (length list))
     (λ inside.
-    after-valid (place_of x) _ _ (event_of list memory x) _ v.now.place (step-valid list memory x v).stepped.event
+    after-valid (place_of x) _ (step_of list memory x).stepped.machine (event_of list memory x) _ v.now.place (step-valid list memory x v).stepped.event
     (run-valid list memory n (next_of list memory x) (next-valid list memory x v)))
     (λ past. record { place = v.now.place; actions = tt })

@@ -56,7 +56,7 @@ module _ (m : Machine) (valid : ValidMachine m) where
   end-valid : (v : Vertex) (next : Corner) → ValidStepped (linked m v next)
   end-valid v next =
       by-test ValidStepped (eqb m.corner.waits 0) (λ w. record { machine = with-corner valid (opened_at v); event = tt })
-      (λ w. record { machine = with-corner valid next; event = segment-orderly _ _ })
+      (λ w. record { machine = with-corner valid next; event = segment-orderly (record m { corner = next }) _ })
 
   corner-valid : (v : Vertex) → ValidStepped (cornered m v)
   unfolding drawing_of

@@ -5,6 +5,7 @@ ghost use Rattle.paint.specs.Runs.{Lent, Touched, pixel_in};
 
 use pixel::{Fill, Pixel};
 
+#[tactic(auto, unfolding(crate::specs::Runs::pixel_in))]
 pub fn read(
     x: usize,
     width: usize,

@@ -38,6 +38,7 @@ pub struct Coat {
 }
 
 // A bitmap's texels differ, so that nothing is told of it.
+#[tactic(auto, unfolding(crate::specs::Picture::changed))]
 fn plainly_drawn(drawing: Drawing, masks: Masks) -> Plain
     ensures { PlainDrawing masks drawing result }
 {
@@ -88,6 +89,7 @@ impl Coat {
     }
 }
 
+#[tactic(auto, unfolding(crate::specs::Runs::texel_in))]
 fn texel_at(texture: Texture, p: Pixels, q: Pixels, memory: &[u8]) -> Colour
     ensures { result ≡ texel_in texture memory.now p q }
 {
@@ -258,6 +260,7 @@ fn ink_columns(
 }
 
 // Each column that is reached, by the pixel before.
+#[tactic(auto, unfolding(crate::specs::Picture::changed, crate::specs::Runs::texel_in))]
 fn draw_columns(
     stretch: Stretch,
     drawing: Drawing,

@@ -1,0 +1,28 @@
+use Rattle.paint.proofs.Folds.{rest-less, rest-none}
+use Rattle.paint.proofs.Going.{fewer, next-action, no-action, none_allowed}
+use Rattle.paint.proofs.Sweeps.{same_more}
+use Rattle.units.proofs.Meaning.{pixels-at}
+use mathlib.Core.Path.{◌≡◌}
+use native.Mathlib.Omega.{arith}
+use Rattle.paint.proofs.draw_list.Goals as goal
+
+pub loop-left-smaller : goal.loop-left-smaller
+loop-left-smaller c =
+    fewer c.advance-advanced.ensures _ c.in-Drew.is
+
+pub loop-left-preserved : goal.loop-left-preserved
+loop-left-preserved c =
+    let v = c.loop-left.invariant in
+    let l = c.draw.auto in (
+      same_more v.0 _ _ _ _ l.picture l.tags l.alpha l.stencil,
+      rest-less _ _ _ _ _ _ _ _ _ (rw (next-action c.advance-advanced.ensures _ c.in-Drew.is) at v.1) (rw (pixels-at c.of.ensures) at c.draw.ensures),
+    )
+
+pub returns-in-Over : goal.returns-in-Over
+returns-in-Over c =
+    rest-none _ _ _ _ _ _ (rw (no-action c.advance-advanced.ensures _ c.in-Over.is) at c.loop-left.invariant.1)
+
+pub returns : goal.returns
+returns c =
+    let e : c.loop-left.left ≡ 0 = omega (arith, c.loop-left-test.false) in
+    rest-none _ _ _ _ _ _ (rw none_allowed at (rw e at c.loop-left.invariant.1))
