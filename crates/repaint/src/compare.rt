@@ -28,6 +28,7 @@ pub struct Ahead {
     pub new: u64,
 }
 
+#[tactic(auto, unfolding(crate::specs::Rows::is_drawn))]
 fn is_drawn(find: Find) -> bool
     ensures { result ≡ is_drawn find }
 {
@@ -53,6 +54,7 @@ fn is_same(old: Find, new: Find) -> bool
 }
 
 // Nothing comes any more of a list that has ended: that tells of every row, as an action does of the rows that it reaches.
+#[tactic(auto, unfolding(crate::specs::Rows::meets_row))]
 fn meets(find: Find, width: u32, y: u32) -> bool
     requires { (width ≤ widest) × (y < tallest) }
     ensures { result ≡ meets_row find width y }
@@ -77,6 +79,7 @@ fn rows_of(find: Find) -> Band
 
 // By row y: a list whose action reaches the row waits. Where both could go on, the one does that has more of its list ahead:
 // past words that were put in or taken out, the two then come to the same action again.
+#[tactic(auto, unfolding(crate::specs::Rows::pace_of))]
 fn choose(old: Find, new: Find, ahead: Ahead, width: u32, y: u32) -> Pace
     requires { (width ≤ widest) × (y < tallest) }
     ensures { result ≡ pace_of old new ahead.old ahead.new width y }
@@ -90,6 +93,7 @@ fn choose(old: Find, new: Find, ahead: Ahead, width: u32, y: u32) -> Pace
 }
 
 // What becomes of a row that stands beside. One that a passed action alone reaches is left for later.
+#[tactic(auto, unfolding(crate::specs::Rows::standing))]
 fn stand(old: bool, new: bool, pace: Pace) -> u8
     ensures { result ≡ standing old new pace }
 {
