@@ -92,14 +92,7 @@ pub fn answer(
     }
 }
 
-#[unsafe(no_mangle)]
-pub extern "C" fn jv_check(
-    list: &[u8],
-    memory: &[u8],
-    width: u32,
-    height: u32,
-    limit: u32,
-) -> JvAnswer
+pub fn jv_check(list: &[u8], memory: &[u8], width: u32, height: u32, limit: u32) -> JvAnswer
     ensures { CheckAnswer list.now (length memory.now) width height limit result }
 {
     answer(list, memory, width, height, limit, true)

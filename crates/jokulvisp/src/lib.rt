@@ -48,8 +48,7 @@ fn tell(number: u32, s: Spelling) -> JvWord
     }
 }
 
-#[unsafe(no_mangle)]
-pub extern "C" fn jv_read_word(bits: u32) -> JvWord
+pub fn jv_read_word(bits: u32) -> JvWord
     ensures { ReadAnswer bits result }
 {
     let nothing = Spelling(0, 0, 0, 0, 0, 0);
@@ -60,8 +59,7 @@ pub extern "C" fn jv_read_word(bits: u32) -> JvWord
     }
 }
 
-#[unsafe(no_mangle)]
-pub extern "C" fn jv_write_word(command: u32, a: u32, b: u32, c: u32, d: u32, e: u32) -> JvBits
+pub fn jv_write_word(command: u32, a: u32, b: u32, c: u32, d: u32, e: u32) -> JvBits
     ensures { WriteAnswer (record { 0 = command; 1 = a; 2 = b; 3 = c; 4 = d; 5 = e }) result }
 {
     match words::write_spelling(Spelling(command, a, b, c, d, e)) {

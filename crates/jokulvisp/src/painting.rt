@@ -39,8 +39,7 @@ fn answer_rows(
     told
 }
 
-#[unsafe(no_mangle)]
-pub extern "C" fn jv_paint_row(
+pub fn jv_paint_row(
     list: &[u8],
     memory: &[u8],
     width: u32,
@@ -59,8 +58,7 @@ pub extern "C" fn jv_paint_row(
     )
 }
 
-#[unsafe(no_mangle)]
-pub extern "C" fn jv_paint(
+pub fn jv_paint(
     list: &[u8],
     memory: &[u8],
     width: u32,

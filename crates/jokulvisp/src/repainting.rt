@@ -73,8 +73,7 @@ fn answer(
     answer_runs(old, new, memory.len() as u32, limit)
 }
 
-#[unsafe(no_mangle)]
-pub extern "C" fn jv_repaint(
+pub fn jv_repaint(
     old: &[u8],
     new: &[u8],
     memory: &[u8],

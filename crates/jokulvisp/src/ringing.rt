@@ -33,8 +33,7 @@ fn tell(answer: Answer) -> JvRing
     }
 }
 
-#[unsafe(no_mangle)]
-pub extern "C" fn jv_ring_run(
+pub fn jv_ring_run(
     ring: &[u8],
     list: &mut [u8],
     shown: &mut [u8],
@@ -57,8 +56,7 @@ pub extern "C" fn jv_ring_run(
     tell(ring::run(ring, list, shown, memory, marks))
 }
 
-#[unsafe(no_mangle)]
-pub extern "C" fn jv_ring_write(
+pub fn jv_ring_write(
     ring: &mut [u8],
     words: &[u8],
     read: u32,
@@ -79,8 +77,7 @@ pub extern "C" fn jv_ring_write(
     tell(ring::write(ring, words, marks))
 }
 
-#[unsafe(no_mangle)]
-pub extern "C" fn jv_ring_reset() -> JvRing
+pub fn jv_ring_reset() -> JvRing
     ensures { RingResetAnswer result }
 {
     tell(ring::reset())
