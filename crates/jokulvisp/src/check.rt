@@ -20,24 +20,28 @@ pub struct JvAnswer {
     pub count: u32,
 }
 
+#[tactic(auto, unfolding(crate::specs::Check::is_frame))]
 pub fn is_frame(width: u32, height: u32) -> bool
     ensures { result ≡ is_frame width height }
 {
     (1 <= width) & (width <= WIDEST) & ((1 <= height) & (height <= TALLEST))
 }
 
+#[tactic(auto, unfolding(crate::specs::Check::is_list))]
 pub fn is_list(length: usize) -> bool
     ensures { result ≡ is_list length }
 {
     (4 <= length) & (length <= LONGEST_LIST) & (length % 4 == 0)
 }
 
+#[tactic(auto, unfolding(crate::specs::Check::is_memory))]
 pub fn is_memory(length: usize) -> bool
     ensures { result ≡ is_memory length }
 {
     length <= LARGEST_MEMORY
 }
 
+#[tactic(auto, unfolding(crate::specs::Check::is_limit))]
 pub fn is_limit(limit: u32) -> bool
     ensures { result ≡ is_limit limit }
 {
@@ -46,6 +50,7 @@ pub fn is_limit(limit: u32) -> bool
 
 // Number 1, 2, 3 or 4 of document 01's table, or 0 where all is within its limits. `lent`: the rows that are to be painted
 // are the frame's, and the runs lent for them have their lengths.
+#[tactic(auto, unfolding(crate::specs::Check::refusal_of))]
 fn refuse(list: usize, memory: usize, width: u32, height: u32, limit: u32, lent: bool) -> u32
     ensures { result ≡ refusal_of list memory width height limit lent }
 {
@@ -64,6 +69,7 @@ fn refuse(list: usize, memory: usize, width: u32, height: u32, limit: u32, lent:
     0
 }
 
+#[tactic(auto, unfolding(crate::specs::Check::answer_of))]
 pub fn answer(
     list: &[u8],
     memory: &[u8],
@@ -92,6 +98,7 @@ pub fn answer(
     }
 }
 
+#[tactic(auto, unfolding(crate::specs::Check::CheckAnswer))]
 pub fn jv_check(list: &[u8], memory: &[u8], width: u32, height: u32, limit: u32) -> JvAnswer
     ensures { CheckAnswer list.now (length memory.now) width height limit result }
 {

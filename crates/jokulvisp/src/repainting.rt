@@ -44,6 +44,7 @@ fn answer_runs(old: &[u8], new: &[u8], memory: u32, limit: u32) -> JvAnswer
     refuse(0, 0)
 }
 
+#[tactic(auto, unfolding(crate::specs::Repaint::repaint_due))]
 fn answer(
     old: &[u8],
     new: &[u8],

@@ -77,6 +77,7 @@ pub fn jv_ring_write(
     tell(ring::write(ring, words, marks))
 }
 
+#[tactic(auto, unfolding(crate::specs::Ring::RingResetAnswer))]
 pub fn jv_ring_reset() -> JvRing
     ensures { RingResetAnswer result }
 {

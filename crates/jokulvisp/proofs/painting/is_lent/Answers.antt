@@ -1,0 +1,7 @@
+use Rattle.jokulvisp.proofs.Painted.{lent-told}
+use Rattle.jokulvisp.proofs.painting.is_lent.Goals as goal
+
+pub returns : goal.returns
+returns c =
+    let a = c.args in
+    rw (c.less-last.ensures, c.less.ensures) (lent-told a.width a.rows a.picture a.tags)
