@@ -3,10 +3,12 @@
 #![tactic(auto)]
 
 ghost use Rattle.std.specs.Prelude.{◌≤◌, length, take};
+ghost use Rattle.std.specs.Io.{ReadsAtMost};
 ghost use Rattle.io.specs.Counts.{IsPrefixLen};
 ghost use Rattle.rowshow.specs.Show.{Shows};
 
-use libc::{STDIN_FILENO, STDOUT_FILENO};
+use std::io;
+use std::io::{Read, Write};
 
 mod text;
 
@@ -28,15 +30,30 @@ fn show(list: &[u8], out: &mut [u8]) -> usize
     )
 }
 
+// Reads until the run is full or the input ends.
+fn read_full(input: &mut impl Read, run: &mut [u8]) -> io::Result<usize>
+    ensures { ReadsAtMost result run.new }
+{
+    let mut length = 0;
+    while length < run.len() {
+        let count = input.read(&mut run[length..])?;
+        if count == 0 {
+            break;
+        }
+        length += count;
+    }
+    Ok(length)
+}
+
 // `show` is proved. Of `main` no contract speaks: what it reads and writes is run and compared, on this crate's stdin and stdout
 // and by tests/rowshow.
 //
-// One byte more than the longest list is read, so that a list too long is refused as jv_paint_row refuses it. A read that
-// fails ends the list, as its end does.
-fn main() {
+// One byte more than the longest list is read, so that a list too long is refused as jv_paint_row refuses it. A read or a write
+// that fails ends the program with its error.
+fn main(rt: HostRuntime) -> io::Result<()> {
     let mut list = [0u8; 8193];
-    let length = io::read_full(STDIN_FILENO, &mut list);
+    let length = read_full(&mut rt.stdin(), &mut list)?;
     let mut out = [0u8; 64];
     let count = show(&list[..length], &mut out);
-    io::write_all(STDOUT_FILENO, &out[..count]);
+    rt.stdout().write_all(&out[..count])
 }

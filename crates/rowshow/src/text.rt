@@ -26,6 +26,7 @@ fn put_hex(byte: u8, out: &mut [u8], at: usize) -> usize
     put(digit(byte % 16), out, high)
 }
 
+#[tactic(auto, unfolding(crate::specs::Text::hex_text))]
 fn put_pixel(red: u8, green: u8, blue: u8, tag: u8, out: &mut [u8], at: usize) -> usize
     requires { at + 9 ≤ length out.old }
     ensures { Appends (pixel_text red green blue tag) at out.old result out.new }
