@@ -25,17 +25,22 @@ VERSION = $(shell sed -n 's/^\#define JV_VERSION "\(.*\)"/\1/p' include/jokulvis
 
 all: $(ARCHIVE) $(TOOL) $(PKG_CONFIG_FILE)
 
-CRATES = crates.txt $(shell find crates -type f ! -path '*/must-fail/*')
+CRATES = crates.txt $(shell find crates -type f ! -path '*/must-fail/*' ! -path '*/out/*')
 
 # Proved first, whatever has changed since it last was.
 $(ARCHIVE): $(CRATES)
-	rt staticlib jokulvisp
+	cd crates/jokulvisp_c && rt lib
+	mkdir -p $(@D)
+	cp crates/jokulvisp_c/out/libjokulvisp_c.a $@
+
+# The tests alone need it. 'rt ci' leaves it there; 'rt run' proves and builds it too, and runs it once.
+crates/rowshow/out/rowshow: $(CRATES)
+	cd crates/rowshow && rt run <stdin >/dev/null
 	touch $@
 
-# The tests alone need it.
-$(ROWSHOW): $(CRATES)
-	rt check rowshow
-	touch $@
+$(ROWSHOW): crates/rowshow/out/rowshow
+	mkdir -p $(@D)
+	cp $< $@
 
 $(TOOL): $(ARCHIVE) include/jokulvisp.h tool/build $(wildcard tool/*.c tool/*.h)
 	tool/build
