@@ -63,7 +63,7 @@ function end_answer() {
 function kind_of(message) {
     if (message ~ /which was (rejected|not admitted)|was not admitted/) return "follows"
     if (message ~ /that can be named from here|is not in scope|has no field|that this goal does not ask|exports no/) return "name"
-    if (message ~ /the two (types|sides)|expected type|does not follow|no proof of|did not prove|no proof was found/) return "fact"
+    if (message ~ /the two (types|sides)|expected type|does not follow|one side reads|no proof of|did not prove|no proof was found/) return "fact"
     if (message ~ /no occurrence of|no part of the goal|give a proof of that|list the missing equation/) return "fact"
     return "unknown"
 }
