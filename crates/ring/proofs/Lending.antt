@@ -2,7 +2,7 @@
 use mathlib.Core.Path.{◌≡◌, sym, ◌∙◌, ap}
 use mathlib.Core.List.{List, [], ◌++◌, append-nil}
 use Prim.Native.Nat.{ℕ, ◌+◌, ◌-◌, ◌≤◌, zero-le}
-use native.Mathlib.Nat.{zero-add}
+use native.Mathlib.Nat.{le_refl, zero-add}
 use native.Mathlib.Omega.{arith}
 use lib.ListN.{length, take, drop, replicate, length-drop, length-replicate, drop_of_length-le}
 use lib.Seq.{drop-drop, take_all}
@@ -17,6 +17,12 @@ flooded at count b run new h e =
     let n = lent-part-long at count run h in
     let f : new ≡ replicate count b = e ∙ ap (λ (k : ℕ). replicate k b) n in
     sym (rw f (laid-lent at count (replicate count b) run h (length-replicate count b)))
+
+-- a whole run copied over another of its length
+pub copied : (src dst : List ℕ) → length src ≡ length dst → take (length src) src ++ drop (length src) dst ≡ src
+copied src dst e =
+    let n : length dst ≤ length src = omega arith in
+    rw (take_all (length src) src (le_refl _), drop_of_length-le dst n, append-nil)
 
 -- a run copied over a part of another
 pub copied-over : (at count : ℕ) (run src new : List ℕ) → at + count ≤ length run → length src ≡ count → new ≡ src

@@ -1,4 +1,4 @@
-// An action into its own numbers and places. Stores go from the front on, as `storedFrom` has them.
+// An action into its own numbers and places. Stores go from the front on, as `stored_from` has them.
 ghost use Rattle.std.specs.Prelude.{◌≡◌, ◌∷◌, length};
 ghost use Rattle.store.specs.Reading.{numbers_each, places_each};
 ghost use Rattle.store.specs.Writing.{stored_from, mask_numbers, ink_numbers, area_places, drawing_numbers, drawing_places, numbers_of, places_of};

@@ -5,4 +5,5 @@ pub mod Integers
 pub mod Packing
 pub mod Round
 pub mod Rows
+pub mod Signs
 pub mod Table
