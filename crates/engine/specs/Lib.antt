@@ -7,5 +7,6 @@ pub mod Handles
 pub mod Kept
 pub mod Machine
 pub mod Run
+pub mod Running
 pub mod Saves
 pub mod Vertex

@@ -7,7 +7,7 @@ use Rattle.action.specs.declared.ink.Clear.{Clear}
 use Rattle.action.specs.declared.Drawing.{Drawing}
 use Rattle.action.specs.declared.Drawing.TheVariants as d
 use Rattle.runs.specs.Runs.{word_at}
-use Rattle.engine.specs.declared.run.Ending.{Ending}
+use Rattle.engine.specs.declared.running.Ending.{Ending}
 use Rattle.engine.specs.declared.run.Stop.{Stop}
 use Rattle.engine.specs.declared.context.Context.{Context}
 use Rattle.engine.specs.declared.kept.Engine.{Engine}

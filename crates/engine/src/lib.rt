@@ -1,7 +1,7 @@
 // A display list run: the state of the engine, what each command does to it, and the actions that come of it.
 //
-// `advance` goes on from an engine to the next drawing action, the end or the fault; `finish` runs a whole list to its end.
-// Their callers never see a word.
+// A `Screen` is a list that can be run: `finish` runs it to its end or fault, and of a `Run` of it `next` asks for one
+// drawing action after the other. Their callers never see a word.
 #![tactic(auto)]
 
 mod command;
@@ -11,8 +11,12 @@ mod handles;
 mod kept;
 mod machine;
 mod run;
+mod running;
+mod screen;
 mod vertex;
 
 pub use handles::SETTINGS;
 pub use kept::Engine;
-pub use run::{Advanced, Ending, Find, Stop, advance, finish};
+pub use run::{Find, Stop};
+pub use running::{Ending, Run};
+pub use screen::Screen;

@@ -1,7 +1,7 @@
 // A run from one drawing action to the next.
 ghost use Rattle.std.specs.Prelude.{◌≡◌};
 ghost use Rattle.engine.specs.Advance.{is_kept, found, Advances};
-ghost use Rattle.engine.specs.Run.{WithinLimits, clear_of, drawing_of, action_of, stop_at, ending_of, run_of};
+ghost use Rattle.engine.specs.Run.{WithinLimits, clear_of, drawing_of, action_of, stop_at};
 
 use crate::context::Context;
 use crate::handles::SETTINGS;
@@ -208,36 +208,4 @@ pub fn advance(
     }
     let at = now.at;
     over(now, kept, left, 19, at)
-}
-
-// How a run ends, and how many words it fetched.
-#[derive(Clone, Copy)]
-pub struct Ending {
-    pub stop: Stop,
-    pub count: u32,
-}
-
-// Runs a list from its start to its end or fault.
-pub fn finish(list: &[u8], memory: u32, limit: u32) -> Ending
-    requires { WithinLimits list.now memory }
-    ensures { result ≡ ending_of (run_of list.now memory limit) }
-{
-    let mut handles = [0; SETTINGS];
-    let advanced = advance(Engine::start(), &mut handles, list, memory, limit, false);
-    let left = advanced.left;
-    let find = advanced.find;
-    match find {
-        // Actions are not asked for, so that none is found.
-        Find::Drew(_) => Ending {
-            stop: Stop {
-                number: 0,
-                place: 0,
-            },
-            count: 0,
-        },
-        Find::Over(stop) => Ending {
-            stop: stop,
-            count: limit - left,
-        },
-    }
 }
