@@ -1,12 +1,14 @@
 // A screen's list run: to its end or fault at once, or from one drawing action to the next.
 ghost use Rattle.std.specs.Prelude.{◌≡◌, length};
-ghost use Rattle.engine.specs.Run.{ending_of, run_of};
-ghost use Rattle.engine.specs.Running.{Begins, GoesOn};
+ghost use Rattle.engine.specs.Run.{actions_of, ending_of, run_of};
+ghost use Rattle.engine.specs.Running.{actions_left};
+ghost use Rattle.std.specs.Iterator.{YieldsFirst, item_count};
 
 use crate::handles::SETTINGS;
 use crate::kept::Engine;
 use crate::run::{Find, Stop, advance};
 use crate::screen::Screen;
+use action::Action;
 
 // How a run ends, and how many words it fetched.
 #[derive(Clone, Copy)]
@@ -27,7 +29,7 @@ pub struct Run<'a> {
 impl<'a> Screen<'a> {
     // A run of the list, before its first word.
     pub fn run(self) -> Run<'a>
-        ensures { Begins self.entry result }
+        ensures { actions_left result ≡ actions_of self.entry.list.now (length self.entry.memory.now) self.entry.limit }
     {
         Run {
             screen: self,
@@ -68,11 +70,15 @@ impl<'a> Screen<'a> {
     }
 }
 
-impl<'a> Run<'a> {
-    // On to the next drawing action, or to the list's end or fault.
-    pub fn next(&mut self) -> Find
-        ensures { GoesOn self.old result self.new }
-    {
+// Over the drawing actions of a list, in order.
+impl<'a> Iterator for Run<'a> {
+    type Item = Action;
+
+    ghost next_gives = { YieldsFirst actions_left };
+
+    ghost remaining = { item_count actions_left };
+
+    fn next(&mut self) -> Option<Action> {
         let memory = self.screen.memory.len() as u32;
         let advanced = advance(
             self.engine,
@@ -84,6 +90,12 @@ impl<'a> Run<'a> {
         );
         self.engine = advanced.engine;
         self.left = advanced.left;
-        advanced.find
+        match advanced.find {
+            Find::Drew(action) => Some(action),
+            Find::Over(_) => {
+                self.left = 0;
+                None
+            }
+        }
     }
 }
