@@ -17,6 +17,6 @@ mod vertex;
 
 pub use handles::SETTINGS;
 pub use kept::Engine;
-pub use run::Stop;
+pub use run::{Advanced, Find, Stop, advance};
 pub use running::{Ending, Run};
 pub use screen::Screen;

@@ -1,7 +1,7 @@
 // A screen's list run: to its end or fault at once, or from one drawing action to the next.
-ghost use Rattle.std.specs.Prelude.{◌≡◌, length};
-ghost use Rattle.engine.specs.Run.{actions_of, ending_of, run_of};
-ghost use Rattle.engine.specs.Running.{actions_left};
+ghost use Rattle.std.specs.Prelude.{◌≡◌};
+ghost use Rattle.engine.specs.Run.{ending_of};
+ghost use Rattle.engine.specs.Running.{actions_in, actions_left, run_in};
 ghost use Rattle.std.specs.Iterator.{YieldsFirst, item_count};
 
 use crate::handles::SETTINGS;
@@ -28,11 +28,11 @@ pub struct Run<'a> {
 
 impl<'a> Screen<'a> {
     // A run of the list, before its first word.
-    pub fn run(self) -> Run<'a>
-        ensures { actions_left result ≡ actions_of self.entry.list.now (length self.entry.memory.now) self.entry.limit }
+    pub fn run(&self) -> Run<'a>
+        ensures { actions_left result ≡ actions_in self.now }
     {
         Run {
-            screen: self,
+            screen: *self,
             engine: Engine::start(),
             handles: [0; SETTINGS],
             left: self.limit,
@@ -40,8 +40,8 @@ impl<'a> Screen<'a> {
     }
 
     // Runs the list from its start to its end or fault.
-    pub fn finish(self) -> Ending
-        ensures { result ≡ ending_of (run_of self.entry.list.now (length self.entry.memory.now) self.entry.limit) }
+    pub fn finish(&self) -> Ending
+        ensures { result ≡ ending_of (run_in self.now) }
     {
         let mut handles = [0; SETTINGS];
         let memory = self.memory.len() as u32;
