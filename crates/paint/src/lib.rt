@@ -4,6 +4,7 @@
 
 ghost use Rattle.std.specs.Prelude.{◌≡◌, ◌<◌, ◌≤◌, ◌+◌, ◌*◌, length};
 ghost use Rattle.engine.specs.Run.{WithinLimits, actions_of};
+ghost use Rattle.engine.specs.Running.{actions_in};
 ghost use Rattle.units.specs.Units.{pixel_at, tallest, widest};
 ghost use Rattle.store.specs.Store.{kept_at};
 ghost use Rattle.paint.specs.Actions.{AllBands, BandAt, Gathers, Rooms, kept_up_to, most_kept};
@@ -14,7 +15,7 @@ mod kept;
 mod point;
 mod row;
 
-use engine::{Engine, Find};
+use engine::{Engine, Find, Screen};
 use kept::Gathered;
 use units::Pixels;
 
@@ -252,33 +253,30 @@ fn paint_each_row(
 
 // Paints so many rows of the frame, from `first` on, each straight into its part of the runs.
 pub fn paint_rows(
-    list: &[u8],
-    memory: &[u8],
-    limit: u32,
+    screen: &Screen,
     width: u32,
     first: u32,
     count: u32,
     picture: &mut [u8],
     tags: &mut [u8],
 )
-    requires within_limits { WithinLimits list.now (length memory.now) }
     requires count_bound { (first + count ≤ tallest) × HoldRows width count picture.old tags.old }
-    ensures picture_after { picture.new ≡ colours_from memory.now (actions_of list.now (length memory.now) limit) width first count }
-    ensures tags_after { tags.new ≡ tags_from memory.now (actions_of list.now (length memory.now) limit) width first count }
+    ensures picture_after { picture.new ≡ colours_from screen.now.memory.now (actions_in screen.now) width first count }
+    ensures tags_after { tags.new ≡ tags_from screen.now.memory.now (actions_in screen.now) width first count }
 {
     let mut numbers = [0; store::NUMBERS * kept::MOST];
     let mut places = [0; store::PLACES * kept::MOST];
     let mut bands = [0; 2 * kept::MOST];
     let gathered = kept::gather(
-        list,
-        memory.len() as u32,
-        limit,
+        screen.list,
+        screen.memory.len() as u32,
+        screen.limit,
         &mut numbers,
         &mut places,
         &mut bands,
     );
     paint_each_row(
-        gathered, &numbers, &places, &bands, list, limit, memory, width, first, count, picture,
+        gathered, &numbers, &places, &bands, screen.list, screen.limit, screen.memory, width, first, count, picture,
         tags,
     );
 }
@@ -338,22 +336,19 @@ fn paint_each_marked(
 
 // Paints the rows that are marked, each straight into its part of the runs, and leaves every other row.
 pub fn paint_marked(
-    list: &[u8],
-    memory: &[u8],
-    limit: u32,
+    screen: &Screen,
     width: u32,
     marks: &[u8],
     picture: &mut [u8],
     tags: &mut [u8],
 )
-    requires within_limits { WithinLimits list.now (length memory.now) }
     requires marks_len_bound { (length marks.now ≤ tallest) × HoldRows width (length marks.now) picture.old tags.old }
     ensures picture_after { picture.new ≡ patched marks.now
-        (row_colours memory.now (actions_of list.now (length memory.now) limit) width)
+        (row_colours screen.now.memory.now (actions_in screen.now) width)
         (3 * width)
         picture.old }
     ensures tags_after { tags.new ≡ patched marks.now
-        (row_tags memory.now (actions_of list.now (length memory.now) limit) width)
+        (row_tags screen.now.memory.now (actions_in screen.now) width)
         width
         tags.old }
 {
@@ -361,14 +356,14 @@ pub fn paint_marked(
     let mut places = [0; store::PLACES * kept::MOST];
     let mut bands = [0; 2 * kept::MOST];
     let gathered = kept::gather(
-        list,
-        memory.len() as u32,
-        limit,
+        screen.list,
+        screen.memory.len() as u32,
+        screen.limit,
         &mut numbers,
         &mut places,
         &mut bands,
     );
     paint_each_marked(
-        gathered, &numbers, &places, &bands, list, limit, memory, width, marks, picture, tags,
+        gathered, &numbers, &places, &bands, screen.list, screen.limit, screen.memory, width, marks, picture, tags,
     );
 }
