@@ -3,6 +3,7 @@ use mathlib.Core.Bool.{Bool, true, false, cond}
 use mathlib.Core.List.{List}
 use mathlib.Core.Logic.{◌⊎◌, inl, inr, ⊎_elim}
 use mathlib.Core.Path.{◌≡◌, refl, sym, ◌∙◌, ap}
+use Rattle.std.specs.Prelude.{Option}
 use Prim.Native.Nat.{ℕ, ◌+◌, ◌<◌, ◌≤◌}
 use native.Mathlib.Nat.{eq-or-lt_of_le}
 use native.Mathlib.Numerals.{add-one}
@@ -12,7 +13,7 @@ use lib.ListN.{length, get_or, set, length-set}
 use lib.Seq.{get_or-set_same, get_or-set_other}
 use borrow.Author.Tests.{eq-eqb, eqb-true, ltb-false, ltb-true}
 use Rattle.truth.proofs.Bools.{not_so}
-use Rattle.engine.specs.declared.run.Find.{Find}
+use Rattle.action.specs.declared.Action.{Action}
 use Rattle.paint.specs.Picture.{is_marked}
 use Rattle.units.specs.Units.{smaller, tallest, widest}
 use Rattle.repaint.specs.Repaint.{marked}
@@ -66,7 +67,7 @@ turns-done d l = record { turned = λ k h e. d.moved k (omega arith) (omega arit
 
 -- rows that a step does not touch stand beside as before
 pub stood-done :
-    (old new : Find) (pace : Pace) (width from to : ℕ) {marks now : List ℕ} {y : ℕ} → Touches old new pace from to → length marks ≤ tallest → width ≤ widest →
+    (old new : Option Action) (pace : Pace) (width from to : ℕ) {marks now : List ℕ} {y : ℕ} → Touches old new pace from to → length marks ≤ tallest → width ≤ widest →
     Done beside (λ k. standing (meets_row old width k) (meets_row new width k) pace) from marks now y → (y ≤ smaller to (length marks)) ⊎ (y ≡ from) →
     smaller to (length marks) ≤ y → Stood width old new pace marks now
 stood-done old new pace width from to {marks} {now} {y} touch high wide d most l = record {

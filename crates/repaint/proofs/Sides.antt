@@ -2,7 +2,8 @@
 use mathlib.Core.Bool.{Bool, true, false, not, ◌&&◌, ◌||◌, and-false, and-true}
 use mathlib.Core.List.{List, [], ◌∷◌, cons-ne-nil, head-eq_of_cons-eq, tail-eq_of_cons-eq}
 use mathlib.Core.Logic.{◌⊎◌, inl, inr, ⊎_elim}
-use mathlib.Core.Path.{◌≡◌, refl, sym, ◌∙◌, ap}
+use mathlib.Core.Path.{◌≡◌, refl, sym, ◌∙◌, ap, subst}
+use Rattle.std.specs.Prelude.{Option, Some, None, min, max}
 use Prim.Native.Nat.{ℕ, ◌<◌, ◌≤◌}
 use native.Mathlib.Omega.{arith}
 use lib.Dec.{eqb, leb, ltb}
@@ -11,15 +12,12 @@ use borrow.Author.Tests.{eqb-false, eqb-true, le-leb, leb-false, leb-true, lt-lt
 use Rattle.truth.proofs.Bools.{both_true, never, not_so}
 use Rattle.action.specs.Same.{Tells}
 use Rattle.action.specs.declared.Action.{Action}
-use Rattle.engine.specs.declared.run.Find.{Find}
-use Rattle.engine.specs.declared.run.Find.TheVariants as f
-use Rattle.engine.specs.declared.run.Stop.{Stop}
 use Rattle.shape.specs.Cover.{outline_of}
 use Rattle.shape.specs.Reach.{Bands}
 use Rattle.shape.proofs.Reaching.{row-by-none}
-use Rattle.units.specs.Units.{larger, pixel_at, smaller, tallest, widest}
+use Rattle.units.specs.Units.{pixel_at, tallest, widest}
 use Rattle.repaint.specs.Repaint.{reaching}
-use Rattle.repaint.specs.Rows.{Alike, Bounded, Compares, Passes, Stood, Touches, Turns, beside, here, is_drawn, later, meets_row, pace_of, passed, reaches_at, standing, with_rest}
+use Rattle.repaint.specs.Rows.{Alike, Bounded, Compares, Passes, Stood, Touches, Turns, beside, is_drawn, later, meets_row, pace_of, passed, reaches_at, standing, with_rest}
 use Rattle.repaint.specs.declared.compare.Pace.{Pace}
 
 -- ONE ROW, one action
@@ -53,30 +51,30 @@ both-returned width y a p q e = go (reaches_at a width y) refl
 
 -- where both lists tell something of a row, and not the same, it differs
 both-met :
-    (width y : ℕ) (old new : Find) (p q : List Action) → (here old ≡ here new → ⊥) → meets_row old width y ≡ true → meets_row new width y ≡ true →
+    (width y : ℕ) (old new : Option Action) (p q : List Action) → (old ≡ new → ⊥) → meets_row old width y ≡ true → meets_row new width y ≡ true →
     Alike width y (with_rest old p) (with_rest new q) → ⊥
-unfolding here meets_row with_rest
-both-met width y (f.Drew a) (f.Drew b) p q apart r s e =
-    apart (ap (λ (x : Action). x ∷ []) (head-eq_of_cons-eq (sym (reach-in width y a p r) ∙ e ∙ reach-in width y b q s)))
-both-met width y (f.Drew a) (f.Over stop) p q apart r s e = cons-ne-nil a _ (sym (reach-in width y a p r) ∙ e ∙ reach-none width y)
-both-met width y (f.Over stop) (f.Drew b) p q apart r s e = cons-ne-nil b _ (sym (reach-in width y b q s) ∙ sym e ∙ reach-none width y)
-both-met width y (f.Over one) (f.Over other) p q apart r s e = apart refl
+unfolding meets_row with_rest
+both-met width y (Some a) (Some b) p q apart r s e =
+    apart (ap (λ (x : Action). Some x) (head-eq_of_cons-eq (sym (reach-in width y a p r) ∙ e ∙ reach-in width y b q s)))
+both-met width y (Some a) None p q apart r s e = cons-ne-nil a _ (sym (reach-in width y a p r) ∙ e ∙ reach-none width y)
+both-met width y None (Some b) p q apart r s e = cons-ne-nil b _ (sym (reach-in width y b q s) ∙ sym e ∙ reach-none width y)
+both-met width y None None p q apart r s e = apart refl
 
 -- a list that goes on past what tells nothing of a row
 past :
-    (width y : ℕ) (go : Bool) (find : Find) (p : List Action) → (go ≡ true → is_drawn find ≡ true) → (meets_row find width y && go) ≡ false →
+    (width y : ℕ) (go : Bool) (find : Option Action) (p : List Action) → (go ≡ true → is_drawn find ≡ true) → (meets_row find width y && go) ≡ false →
     reaching width y (passed go find p) ≡ reaching width y (with_rest find p)
 unfolding is_drawn meets_row passed with_rest
 past width y false find p drawn off = refl
-past width y true (f.Drew a) p drawn off = sym (reach-out width y a p (sym (and-true (reaches_at a width y)) ∙ off))
-past width y true (f.Over stop) p drawn off = never (drawn refl)
+past width y true (Some a) p drawn off = sym (reach-out width y a p (sym (and-true (reaches_at a width y)) ∙ off))
+past width y true None p drawn off = never (drawn refl)
 
 -- a row outside of the bounds is not met
-bounded-by : (find : Find) (top bottom : ℕ) → Bounded find top bottom → (width y : ℕ) → width ≤ widest → y < tallest → (y < top) ⊎ (bottom ≤ y) → meets_row find width y ≡ false
+bounded-by : (find : Option Action) (top bottom : ℕ) → Bounded find top bottom → (width y : ℕ) → width ≤ widest → y < tallest → (y < top) ⊎ (bottom ≤ y) → meets_row find width y ≡ false
 bounded-by find top bottom b width y w h off =
     not_so _ (λ e. let i = b width y w h e in ⊎_elim (λ (l : y < top). absurd (omega (arith, l, i.0))) (λ (l : bottom ≤ y). absurd (omega (arith, l, i.1))) off)
 
-pub band-bounds : (a : Action) (top bottom : ℕ) → Bands a top bottom → Bounded (f.Drew a) top bottom
+pub band-bounds : (a : Action) (top bottom : ℕ) → Bands a top bottom → Bounded (Some a) top bottom
 unfolding meets_row
 band-bounds a top bottom bands width y w h e = go (leb top y && ltb y bottom) refl
   where
@@ -93,11 +91,11 @@ band-bounds a top bottom bands width y w h e = go (leb top y && ltb y bottom) re
         never (sym t ∙ rw (le-leb top y b.0, lt-ltb y bottom b.1)))))
         ∙ e)
 
-pub over-bounds : (stop : Stop) → Bounded (f.Over stop) 0 tallest
-over-bounds stop width y w h e = (omega arith, h)
+pub over-bounds : Bounded None 0 tallest
+over-bounds width y w h e = (omega arith, h)
 
 -- a step touches no row outside of the bounds of what is passed
-module _ (old new : Find) (pace : Pace) where
+module _ (old new : Option Action) (pace : Pace) where
   pub touch-old : {top bottom : ℕ} → Bounded old top bottom → pace.new ≡ false → Touches old new pace top bottom
   unfolding standing
   touch-old b e width y w h off = rw (bounded-by old _ _ b width y w h off, e, and-false (meets_row new width y))
@@ -107,21 +105,21 @@ module _ (old new : Find) (pace : Pace) where
   touch-new b e width y w h off = rw (bounded-by new _ _ b width y w h off, e, and-false (meets_row old width y))
 
   pub touch-both :
-      {top bottom top' bottom' : ℕ} → Bounded old top bottom → Bounded new top' bottom' → Touches old new pace (smaller top top') (larger bottom bottom')
+      {top bottom top' bottom' : ℕ} → Bounded old top bottom → Bounded new top' bottom' → Touches old new pace (min top top') (max bottom bottom')
   unfolding standing
   touch-both {top} {bottom} {top'} {bottom'} a b width y w h off =
       rw (
-        bounded-by old top bottom a width y w h (⊎_elim (λ (l : y < smaller top top'). inl (omega (arith, l))) (λ (l : larger bottom bottom' ≤ y). inr (omega (arith, l))) off),
-        bounded-by new top' bottom' b width y w h (⊎_elim (λ (l : y < smaller top top'). inl (omega (arith, l))) (λ (l : larger bottom bottom' ≤ y). inr (omega (arith, l))) off),
+        bounded-by old top bottom a width y w h (⊎_elim (λ (l : y < min top top'). inl (omega (arith, l))) (λ (l : max bottom bottom' ≤ y). inr (omega (arith, l))) off),
+        bounded-by new top' bottom' b width y w h (⊎_elim (λ (l : y < min top top'). inl (omega (arith, l))) (λ (l : max bottom bottom' ≤ y). inr (omega (arith, l))) off),
       )
 
 -- THE PACE
-not-met : (find : Find) (width y : ℕ) → not (meets_row find width y) ≡ true → is_drawn find ≡ true
+not-met : (find : Option Action) (width y : ℕ) → not (meets_row find width y) ≡ true → is_drawn find ≡ true
 unfolding is_drawn meets_row
-not-met (f.Drew a) width y e = refl
-not-met (f.Over stop) width y e = never e
+not-met (Some a) width y e = refl
+not-met None width y e = never e
 
-module _ (old new : Find) (p q width y : ℕ) where
+module _ (old new : Option Action) (p q width y : ℕ) where
   pub pace-old : (pace_of old new p q width y).old ≡ true → is_drawn old ≡ true
   unfolding pace_of
   pace-old e = not-met old width y (both_true (not (meets_row old width y)) _ e).0
@@ -138,7 +136,7 @@ waits true false c d h = absurd (omega arith)
 waits false true c d h = absurd (omega arith)
 waits false false c d h = absurd (omega arith)
 
-not-later : (old new : Find) (p q width y : ℕ) → standing (meets_row old width y) (meets_row new width y) (pace_of old new p q width y) ≡ later → ⊥
+not-later : (old new : Option Action) (p q width y : ℕ) → standing (meets_row old width y) (meets_row new width y) (pace_of old new p q width y) ≡ later → ⊥
 unfolding pace_of
 not-later old new p q width y h = waits (meets_row old width y) (meets_row new width y) _ _ h
 
@@ -160,7 +158,7 @@ one-goes false true c d e = inl refl
 one-goes false false c d e = inl e
 
 some-goes :
-    (old new : Find) (p q width y : ℕ) →
+    (old new : Option Action) (p q width y : ℕ) →
     ((pace_of old new p q width y).old || (pace_of old new p q width y).new ≡ true) ⊎
     (standing (meets_row old width y) (meets_row new width y) (pace_of old new p q width y) ≡ beside → ⊥)
 unfolding pace_of
@@ -174,7 +172,7 @@ split a b c d e h = go (a && c) (b && d) h
     go true z t = never (sym t)
     go false z t = (refl, t)
 
-module _ (width y : ℕ) (old new : Find) (pace : Pace) (apart : here old ≡ here new → ⊥)
+module _ (width y : ℕ) (old new : Option Action) (pace : Pace) (apart : old ≡ new → ⊥)
     (old_drawn : pace.old ≡ true → is_drawn old ≡ true) (new_drawn : pace.new ≡ true → is_drawn new ≡ true) where
   pub stood : {m' : ℕ} → m' ≡ standing (meets_row old width y) (meets_row new width y) pace → Passes width y old new pace beside m'
   unfolding standing
@@ -221,7 +219,7 @@ module _ (width y : ℕ) (old new : Find) (pace : Pace) (apart : here old ≡ he
       go false e = further ((meets_row old width y && pace.old) || (meets_row new width y && pace.new)) refl e
 
 -- a row that does not stand beside stays as it is
-pub unmoved : (width y : ℕ) (old new : Find) (pace : Pace) {m m' : ℕ} → (m ≡ beside → ⊥) → m' ≡ m → Passes width y old new pace m m'
+pub unmoved : (width y : ℕ) (old new : Option Action) (pace : Pace) {m m' : ℕ} → (m ≡ beside → ⊥) → m' ≡ m → Passes width y old new pace m m'
 unmoved width y old new pace off e = record {
   others = λ o. e;
   known = λ b. absurd (off b);
@@ -232,64 +230,43 @@ unmoved width y old new pace off e = record {
 }
 
 -- the same action in both lists
-same-action : (a b : Action) → a ∷ [] ≡ b ∷ [] → a ≡ b
-same-action a b e = head-eq_of_cons-eq e
-
-pub same-passed : (width y : ℕ) (old new : Find) {m : ℕ} → here old ≡ here new → is_drawn old ≡ true → Passes width y old new (record { old = true; new = true }) m m
-unfolding here is_drawn passed with_rest
-same-passed width y (f.Drew a) (f.Drew b) e d =
-    let s : a ≡ b = same-action a b e in
-    record {
+pub same-passed : (width y : ℕ) (old new : Option Action) {m : ℕ} → old ≡ new → is_drawn old ≡ true → Passes width y old new (record { old = true; new = true }) m m
+unfolding is_drawn passed with_rest
+same-passed width y old new {m} e d = subst (λ (n : Option Action). Passes width y old n (record { old = true; new = true }) m m) e (alone old d)
+  where
+    alone : (find : Option Action) → is_drawn find ≡ true → Passes width y find find (record { old = true; new = true }) m m
+    alone (Some a) d = record {
       others = λ o. refl;
       known = λ i. omega (arith, i);
       alike = λ i z. absurd (omega (arith, i, z));
       differs = λ i z. absurd (omega (arith, i, z));
-      onwards = λ i z p q k. both-passed width y a p q (k ∙ rw s);
-      back = λ i z p q k. both-returned width y a p q k ∙ rw s;
+      onwards = λ i z p q k. both-passed width y a p q k;
+      back = λ i z p q k. both-returned width y a p q k;
     }
-same-passed width y (f.Drew a) (f.Over stop) e d = absurd (cons-ne-nil a [] e)
-same-passed width y (f.Over stop) new e d = never d
+    alone None d = never d
 
 -- both lists have ended
-pub both-over : (width y : ℕ) (old new : Find) {m m' : ℕ} → here old ≡ here new → is_drawn old ≡ false → (m ≡ beside → m' ≡ 0) → ((m ≡ beside → ⊥) → m' ≡ m) → Passes width y old new (record { old = false; new = false }) m m'
-unfolding here is_drawn passed with_rest
-both-over width y (f.Drew a) new e d z o = never (sym d)
-both-over width y (f.Over stop) (f.Drew b) e d z o = absurd (cons-ne-nil b [] (sym e))
-both-over width y (f.Over one) (f.Over other) e d z o = record {
-  others = o;
-  known = λ b. omega (arith, z b);
-  alike = λ b k p q. refl;
-  differs = λ b k. absurd (omega (arith, k, z b));
-  onwards = λ b k. absurd (omega (arith, k, z b));
-  back = λ b k. absurd (omega (arith, k, z b));
-}
+pub both-over : (width y : ℕ) (old new : Option Action) {m m' : ℕ} → old ≡ new → is_drawn old ≡ false → (m ≡ beside → m' ≡ 0) → ((m ≡ beside → ⊥) → m' ≡ m) → Passes width y old new (record { old = false; new = false }) m m'
+unfolding is_drawn passed with_rest
+both-over width y old new {m} {m'} e d z o = subst (λ (n : Option Action). Passes width y old n (record { old = false; new = false }) m m') e (alone old d)
+  where
+    alone : (find : Option Action) → is_drawn find ≡ false → Passes width y find find (record { old = false; new = false }) m m'
+    alone (Some a) d = never (sym d)
+    alone None d = record {
+      others = o;
+      known = λ b. omega (arith, z b);
+      alike = λ b k p q. refl;
+      differs = λ b k. absurd (omega (arith, k, z b));
+      onwards = λ b k. absurd (omega (arith, k, z b));
+      back = λ b k. absurd (omega (arith, k, z b));
+    }
 
 -- ALL ROWS
--- what two finds of which only one may be drawn are told apart by
-pub tell-drawn : (a b : Action) {r : Bool} → Tells r (a ≡ b) → Tells r (here (f.Drew a) ≡ here (f.Drew b))
-unfolding here
-tell-drawn a b t = record { holds = λ e. ap (λ (x : Action). x ∷ []) (t.holds e); told = λ e. t.told (same-action a b e) }
+drawn-too : (old new : Option Action) → old ≡ new → is_drawn old ≡ true → is_drawn new ≡ true
+drawn-too old new e d = sym (ap is_drawn e) ∙ d
 
-pub tell-left : (a : Action) (stop : Stop) → Tells false (here (f.Drew a) ≡ here (f.Over stop))
-unfolding here
-tell-left a stop = record { holds = λ e. never e; told = λ e. absurd (cons-ne-nil a [] e) }
-
-pub tell-right : (stop : Stop) (b : Action) → Tells false (here (f.Over stop) ≡ here (f.Drew b))
-unfolding here
-tell-right stop b = record { holds = λ e. never e; told = λ e. absurd (cons-ne-nil b [] (sym e)) }
-
-pub tell-over : (s t : Stop) → Tells true (here (f.Over s) ≡ here (f.Over t))
-unfolding here
-tell-over s t = record { holds = λ e. refl; told = λ e. refl }
-
-drawn-too : (old new : Find) → here old ≡ here new → is_drawn old ≡ true → is_drawn new ≡ true
-unfolding here is_drawn
-drawn-too (f.Drew a) (f.Drew b) e d = refl
-drawn-too (f.Drew a) (f.Over stop) e d = absurd (cons-ne-nil a [] e)
-drawn-too (f.Over stop) new e d = never d
-
-module _ {width y : ℕ} (old new : Find) {marks : List ℕ} where
-  pub compare_same : here old ≡ here new → is_drawn old ≡ true → get_or marks y 0 ≡ beside → Compares width y old new (record { old = true; new = true }) marks marks
+module _ {width y : ℕ} (old new : Option Action) {marks : List ℕ} where
+  pub compare_same : old ≡ new → is_drawn old ≡ true → get_or marks y 0 ≡ beside → Compares width y old new (record { old = true; new = true }) marks marks
   compare_same e d at = record {
     old_drawn = λ t. d;
     new_drawn = λ t. drawn-too old new e d;
@@ -298,7 +275,7 @@ module _ {width y : ℕ} (old new : Find) {marks : List ℕ} where
     moves = inl refl;
   }
 
-  pub compare-over : {marks' : List ℕ} → here old ≡ here new → is_drawn old ≡ false → y < length marks → get_or marks y 0 ≡ beside → Turns beside 0 marks marks' → Compares width y old new (record { old = false; new = false }) marks marks'
+  pub compare-over : {marks' : List ℕ} → old ≡ new → is_drawn old ≡ false → y < length marks → get_or marks y 0 ≡ beside → Turns beside 0 marks marks' → Compares width y old new (record { old = false; new = false }) marks marks'
   compare-over {marks'} e d h at t = record {
     old_drawn = λ i. never i;
     new_drawn = λ i. never i;
@@ -307,7 +284,7 @@ module _ {width y : ℕ} (old new : Find) {marks : List ℕ} where
     moves = inr (λ z. absurd (omega (arith, z, t.turned y h at)));
   }
 
-  pub compare-apart : {marks' : List ℕ} → (p q : ℕ) → (here old ≡ here new → ⊥) → y < length marks → get_or marks y 0 ≡ beside → Stood width old new (pace_of old new p q width y) marks marks' → Compares width y old new (pace_of old new p q width y) marks marks'
+  pub compare-apart : {marks' : List ℕ} → (p q : ℕ) → (old ≡ new → ⊥) → y < length marks → get_or marks y 0 ≡ beside → Stood width old new (pace_of old new p q width y) marks marks' → Compares width y old new (pace_of old new p q width y) marks marks'
   compare-apart {marks'} p q apart h at s = record {
     old_drawn = pace-old old new p q width y;
     new_drawn = pace-new old new p q width y;

@@ -3,6 +3,7 @@ use mathlib.Core.Bool.{Bool, true, false}
 use mathlib.Core.List.{List}
 use mathlib.Core.Logic.{◌⊎◌, inl, inr, ⊎_elim}
 use mathlib.Core.Path.{◌≡◌, refl, sym, ◌∙◌, ap}
+use Rattle.std.specs.Prelude.{Option}
 use Prim.Native.Nat.{ℕ, zero, suc, ◌<◌, ◌≤◌}
 use native.Mathlib.Nat.{eq-or-lt_of_le}
 use native.Mathlib.Omega.{arith}
@@ -10,7 +11,6 @@ use lib.Dec.{eqb}
 use lib.ListN.{length, get_or, get_or-replicate, length-replicate, replicate}
 use borrow.Author.Tests.{eqb-false, eqb-true}
 use Rattle.action.specs.declared.Action.{Action}
-use Rattle.engine.specs.declared.run.Find.{Find}
 use Rattle.repaint.specs.Repaint.{Mark, Marks, reaching}
 use Rattle.repaint.specs.Rows.{AllStand, Begins, Compares, Passes, Seeks, Stands, Turns, Walks, beside, later, passed, with_rest}
 use Rattle.repaint.specs.declared.compare.Pace.{Pace}
@@ -25,7 +25,7 @@ is-or-not m n = go (eqb m n) refl
 
 -- ONE ROW, one step on
 stands-next :
-    {old new : List Action} {width y : ℕ} (a b : Find) (p q : List Action) {pace : Pace} {m m' : ℕ} →
+    {old new : List Action} {width y : ℕ} (a b : Option Action) (p q : List Action) {pace : Pace} {m m' : ℕ} →
     Stands old new width y (with_rest a p) (with_rest b q) m → Passes width y a b pace m m' → Stands old new width y (passed pace.old a p) (passed pace.new b q) m'
 stands-next {old} {new} {width} {y} a b p q {pace} {m} {m'} s t = ⊎_elim moving staying (is-or-not m beside)
   where
@@ -66,7 +66,7 @@ module _ {old new : List Action} {width y : ℕ} {start : List ℕ} where
   }
 
   pub walking-next :
-      {a b : Find} (p q : List Action) {p' q' : List Action} {marks marks' : List ℕ} {row row' : ℕ} {pace : Pace} →
+      {a b : Option Action} (p q : List Action) {p' q' : List Action} {marks marks' : List ℕ} {row row' : ℕ} {pace : Pace} →
       Walking old new width y start (with_rest a p) (with_rest b q) marks row → row < length marks → Compares width row a b pace marks marks' →
       length marks' ≡ length marks → p' ≡ passed pace.old a p → q' ≡ passed pace.new b q → Seeks marks' row beside row' → Walking old new width y start p' q' marks' row'
   walking-next {a} {b} p q {p'} {q'} {marks} {marks'} {row} {row'} {pace} w h c long d e s = record {

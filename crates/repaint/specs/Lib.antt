@@ -1,2 +1,3 @@
 pub mod Repaint
 pub mod Rows
+pub mod Sides

@@ -1,11 +1,7 @@
 -- Two lists gone through side by side, and how a row stands meanwhile. No sentence of document 01 stands behind these contracts: they say that what is
 -- passed of both lists tells nothing of a row that stands beside, so that what is left of them settles what Repaint defines.
-use Rattle.std.specs.Prelude.{Bool, true, false, not, cond, ◌&&◌, ◌||◌, List, [], ◌∷◌, ◌⊎◌, ◌≡◌, ℕ, ◌+◌, ◌<◌, ◌≤◌, leb, length, get_or}
+use Rattle.std.specs.Prelude.{Bool, true, false, not, Option, Some, None, cond, ◌&&◌, ◌||◌, List, [], ◌∷◌, ◌⊎◌, ◌≡◌, ℕ, ◌+◌, ◌<◌, ◌≤◌, leb, length, get_or}
 use Rattle.action.specs.declared.Action.{Action}
-use Rattle.engine.specs.Run.{run}
-use Rattle.engine.specs.declared.run.Advanced.{Advanced}
-use Rattle.engine.specs.declared.run.Find.{Find}
-use Rattle.engine.specs.declared.run.Find.TheVariants as f
 use Rattle.shape.specs.Cover.{outline_of, reaches_row}
 use Rattle.units.specs.Units.{pixel_at, tallest, widest}
 use Rattle.repaint.specs.Repaint.{reaching}
@@ -19,29 +15,25 @@ abbrev pub Alike : ℕ → ℕ → List Action → List Action → Type 0
 Alike width y old new = reaching width y old ≡ reaching width y new
 
 -- WHAT A RUN CAME TO: an action, or the end. What is left of its actions where it goes on, and where it does not
-unfoldable pub is_drawn : Find → Bool
-is_drawn (f.Drew a) = true
-is_drawn (f.Over stop) = false
+unfoldable pub is_drawn : Option Action → Bool
+is_drawn (Some a) = true
+is_drawn None = false
 
-unfoldable pub here : Find → List Action
-here (f.Drew a) = a ∷ []
-here (f.Over stop) = []
+unfoldable pub with_rest : Option Action → List Action → List Action
+with_rest (Some a) rest = a ∷ rest
+with_rest None rest = []
 
-unfoldable pub with_rest : Find → List Action → List Action
-with_rest (f.Drew a) rest = a ∷ rest
-with_rest (f.Over stop) rest = []
-
-unfoldable pub passed : Bool → Find → List Action → List Action
+unfoldable pub passed : Bool → Option Action → List Action → List Action
 passed true find rest = rest
 passed false find rest = with_rest find rest
 
 -- it tells something of row y
-unfoldable pub meets_row : Find → ℕ → ℕ → Bool
-meets_row (f.Drew a) width y = reaches_at a width y
-meets_row (f.Over stop) width y = true
+unfoldable pub meets_row : Option Action → ℕ → ℕ → Bool
+meets_row (Some a) width y = reaches_at a width y
+meets_row None width y = true
 
 -- and of no row of a frame outside of these
-abbrev pub Bounded : Find → ℕ → ℕ → Type 0
+abbrev pub Bounded : Option Action → ℕ → ℕ → Type 0
 Bounded find top bottom = (width y : ℕ) → width ≤ widest → y < tallest → meets_row find width y ≡ true → (top ≤ y) × (y < bottom)
 
 -- HOW A ROW STANDS: 0 and 1 are its marks, 2 leaves it for later; where it stands beside, what has been passed of both lists is alike
@@ -62,7 +54,7 @@ abbrev pub AllStand : List Action → List Action → ℕ → List Action → Li
 AllStand old new width p q marks = (y : ℕ) → y < length marks → Stands old new width y p q (get_or marks y 0)
 
 -- A list goes on unless it tells something of row y. Where both could, the one does that has more ahead.
-unfoldable pub pace_of : Find → Find → ℕ → ℕ → ℕ → ℕ → Pace
+unfoldable pub pace_of : Option Action → Option Action → ℕ → ℕ → ℕ → ℕ → Pace
 pace_of old new old_ahead new_ahead width y =
     record {
       old = not (meets_row old width y) && (meets_row new width y || leb new_ahead old_ahead);
@@ -74,11 +66,11 @@ unfoldable pub standing : Bool → Bool → Pace → ℕ
 standing old new pace = cond (old && new) 1 (cond ((old && pace.old) || (new && pace.new)) later beside)
 
 -- outside of these rows it stands beside as before
-abbrev pub Touches : Find → Find → Pace → ℕ → ℕ → Type 0
+abbrev pub Touches : Option Action → Option Action → Pace → ℕ → ℕ → Type 0
 Touches old new pace top bottom =
     (width y : ℕ) → width ≤ widest → y < tallest → (y < top) ⊎ (bottom ≤ y) → standing (meets_row old width y) (meets_row new width y) pace ≡ beside
 
-pub record Stood (width : ℕ) (old new : Find) (pace : Pace) (marks marks' : List ℕ) : Type 0 where
+pub record Stood (width : ℕ) (old new : Option Action) (pace : Pace) (marks marks' : List ℕ) : Type 0 where
   pub moved :
       (y : ℕ) → y < length marks → get_or marks y 0 ≡ beside → get_or marks' y 0 ≡ standing (meets_row old width y) (meets_row new width y) pace
   pub others : (y : ℕ) → y < length marks → (get_or marks y 0 ≡ beside → ⊥) → get_or marks' y 0 ≡ get_or marks y 0
@@ -88,7 +80,7 @@ pub record Turns (was now : ℕ) (marks marks' : List ℕ) : Type 0 where
   pub others : (y : ℕ) → y < length marks → (get_or marks y 0 ≡ was → ⊥) → get_or marks' y 0 ≡ get_or marks y 0
 
 -- one step, for a row
-pub record Passes (width y : ℕ) (old new : Find) (pace : Pace) (m m' : ℕ) : Type 0 where
+pub record Passes (width y : ℕ) (old new : Option Action) (pace : Pace) (m m' : ℕ) : Type 0 where
   pub others : (m ≡ beside → ⊥) → m' ≡ m
   pub known : m ≡ beside → m' ≤ beside
   pub alike : m ≡ beside → m' ≡ 0 → (p q : List Action) → Alike width y (with_rest old p) (with_rest new q)
@@ -101,28 +93,12 @@ pub record Passes (width y : ℕ) (old new : Find) (pace : Pace) (m m' : ℕ) : 
       Alike width y (passed pace.old old p) (passed pace.new new q) → Alike width y (with_rest old p) (with_rest new q)
 
 -- and for all of them. A list goes on, or row y is settled; it is not left for later
-pub record Compares (width y : ℕ) (old new : Find) (pace : Pace) (marks marks' : List ℕ) : Type 0 where
+pub record Compares (width y : ℕ) (old new : Option Action) (pace : Pace) (marks marks' : List ℕ) : Type 0 where
   pub old_drawn : pace.old ≡ true → is_drawn old ≡ true
   pub new_drawn : pace.new ≡ true → is_drawn new ≡ true
   pub rows : (k : ℕ) → k < length marks → Passes width k old new pace (get_or marks k 0) (get_or marks' k 0)
   pub kept : get_or marks' y 0 ≡ later → ⊥
   pub moves : (pace.old || pace.new ≡ true) ⊎ (get_or marks' y 0 ≡ beside → ⊥)
-
--- THE RUNS. The actions after what a run came to, those with it, and how much is left of the run at most
-abbrev pub rest_of : List ℕ → ℕ → Advanced → List ℕ → List Action
-rest_of list memory a handles = (run list memory a.left (record { engine = a.engine; handles = handles })).actions
-
-abbrev pub ahead : List ℕ → ℕ → Advanced → List ℕ → List Action
-ahead list memory a handles = with_rest a.find (rest_of list memory a handles)
-
-abbrev pub weight : Advanced → ℕ
-weight a = a.left + cond (is_drawn a.find) 1 0
-
--- a run that goes on, or stays
-pub record GoesOn (list : List ℕ) (memory : ℕ) (goes : Bool) (at : Advanced) (handles : List ℕ) (next : Advanced) (handles' : List ℕ) : Type 0 where
-  pub lighter : goes ≡ true → is_drawn at.find ≡ true → weight next < weight at
-  pub stays : goes ≡ false → weight next ≡ weight at
-  pub actions : ahead list memory next handles' ≡ passed goes at.find (rest_of list memory at handles)
 
 -- THE MARKS. The first row from y on that stands so, or the number of rows
 pub record Seeks (marks : List ℕ) (y stand row : ℕ) : Type 0 where

@@ -1,10 +1,9 @@
 // Two lists side by side, each at an action or at its end: which of them goes on, and what that tells of the rows.
 ghost use Rattle.std.specs.Prelude.{◌≡◌, ◌<◌, ◌≤◌, length, get_or};
-ghost use Rattle.action.specs.Same.{Tells};
 ghost use Rattle.units.specs.Units.{tallest, widest};
-ghost use Rattle.repaint.specs.Rows.{Bounded, Compares, Stood, Touches, Turns, beside, here, is_drawn, meets_row, pace_of, standing};
+ghost use Rattle.repaint.specs.Rows.{Bounded, Compares, Stood, Touches, Turns, beside, meets_row, pace_of, standing};
 
-use engine::Find;
+use action::Action;
 use shape::reach;
 use shape::reach::Band;
 use units::TALLEST;
@@ -28,49 +27,24 @@ pub struct Ahead {
     pub new: u64,
 }
 
-#[tactic(auto, unfolding(crate::specs::Rows::is_drawn))]
-fn is_drawn(find: Find) -> bool
-    ensures { result ≡ is_drawn find }
-{
-    match find {
-        Find::Drew(_) => true,
-        Find::Over(_) => false,
-    }
-}
-
-fn is_same(old: Find, new: Find) -> bool
-    ensures { Tells result (here old ≡ here new) }
-{
-    match old {
-        Find::Drew(a) => match new {
-            Find::Drew(b) => a.is(b),
-            Find::Over(_) => false,
-        },
-        Find::Over(_) => match new {
-            Find::Drew(_) => false,
-            Find::Over(_) => true,
-        },
-    }
-}
-
 // Nothing comes any more of a list that has ended: that tells of every row, as an action does of the rows that it reaches.
 #[tactic(auto, unfolding(crate::specs::Rows::meets_row))]
-fn meets(find: Find, width: u32, y: u32) -> bool
+fn meets(find: Option<Action>, width: u32, y: u32) -> bool
     requires { (width ≤ widest) × (y < tallest) }
     ensures { result ≡ meets_row find width y }
 {
     match find {
-        Find::Drew(action) => reach::reaches(action, width, y),
-        Find::Over(_) => true,
+        Some(action) => reach::reaches(action, width, y),
+        None => true,
     }
 }
 
-fn rows_of(find: Find) -> Band
+fn rows_of(find: Option<Action>) -> Band
     ensures { Bounded find result.top result.bottom }
 {
     match find {
-        Find::Drew(action) => reach::rows_of(action),
-        Find::Over(_) => Band {
+        Some(action) => reach::rows_of(action),
+        None => Band {
             top: 0,
             bottom: TALLEST,
         },
@@ -80,7 +54,7 @@ fn rows_of(find: Find) -> Band
 // By row y: a list whose action reaches the row waits. Where both could go on, the one does that has more of its list ahead:
 // past words that were put in or taken out, the two then come to the same action again.
 #[tactic(auto, unfolding(crate::specs::Rows::pace_of))]
-fn choose(old: Find, new: Find, ahead: Ahead, width: u32, y: u32) -> Pace
+fn choose(old: Option<Action>, new: Option<Action>, ahead: Ahead, width: u32, y: u32) -> Pace
     requires { (width ≤ widest) × (y < tallest) }
     ensures { result ≡ pace_of old new ahead.old ahead.new width y }
 {
@@ -107,7 +81,7 @@ fn stand(old: bool, new: bool, pace: Pace) -> u8
 }
 
 // The rows that can stand otherwise after this step: those of the actions that are passed.
-fn touched(old: Find, new: Find, pace: Pace) -> Band
+fn touched(old: Option<Action>, new: Option<Action>, pace: Pace) -> Band
     ensures { Touches old new pace result.top result.bottom }
 {
     if !pace.new {
@@ -119,24 +93,21 @@ fn touched(old: Find, new: Find, pace: Pace) -> Band
     let a = rows_of(old);
     let b = rows_of(new);
     Band {
-        top: units::least(a.top as u64, b.top as u64) as u32,
-        bottom: units::most(a.bottom as u64, b.bottom as u64) as u32,
+        top: a.top.min(b.top),
+        bottom: a.bottom.max(b.bottom),
     }
 }
 
-fn settle(old: Find, new: Find, pace: Pace, width: u32, from: u32, to: u32, marks: &mut [u8])
+fn settle(old: Option<Action>, new: Option<Action>, pace: Pace, width: u32, from: u32, to: u32, marks: &mut [u8])
     requires { Touches old new pace from to × ((length marks.old ≤ tallest) × (width ≤ widest)) }
     ensures { Stood width old new pace marks.old marks.new }
 {
-    let end = units::least(to as u64, marks.len() as u64) as usize;
-    let mut y = from as usize;
-    while y < end {
+    for y in from as usize..marks.len().min(to as usize) {
         if marks[y] == BESIDE {
             let a = meets(old, width, y as u32);
             let b = meets(new, width, y as u32);
             marks[y] = stand(a, b, pace);
         }
-        y += 1;
     }
 }
 
@@ -144,22 +115,20 @@ fn settle(old: Find, new: Find, pace: Pace, width: u32, from: u32, to: u32, mark
 pub fn turn(marks: &mut [u8], was: u8, then: u8)
     ensures { Turns was then marks.old marks.new }
 {
-    let mut y: usize = 0;
-    while y < marks.len() {
+    for y in 0..marks.len() {
         if marks[y] == was {
             marks[y] = then;
         }
-        y += 1;
     }
 }
 
 // Row y stands beside, and is not left for later.
-pub fn compare(old: Find, new: Find, ahead: Ahead, width: u32, y: u32, marks: &mut [u8]) -> Pace
+pub fn compare(old: Option<Action>, new: Option<Action>, ahead: Ahead, width: u32, y: u32, marks: &mut [u8]) -> Pace
     requires { ((y < length marks.old) × (get_or marks.old y 0 ≡ beside)) × ((length marks.old ≤ tallest) × (width ≤ widest)) }
     ensures { Compares width y old new result marks.old marks.new }
 {
-    if is_same(old, new) {
-        if is_drawn(old) {
+    if old == new {
+        if old.is_some() {
             return Pace {
                 old: true,
                 new: true,

@@ -12,5 +12,5 @@ returns-then-not-pace-2 c =
 
 pub returns : goal.returns
 returns c =
-    rw (c.least.ensures, c.most.ensures)
+    rw (c.min.ensures, c.max.ensures)
     (touch-both _ _ _ c.rows_of-a.ensures c.rows_of-b.ensures)
