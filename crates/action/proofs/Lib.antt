@@ -1,3 +1,4 @@
 pub mod Corners
 pub mod Naming
+pub mod Sameness
 pub mod Telling
