@@ -123,21 +123,21 @@ impl Context {
             alpha: b.alpha,
         };
         let alpha = AlphaTest {
-            test: Test::of(b.alphatest),
+            test: Test::from(b.alphatest),
             reference: b.alphareference,
         };
         let stencil = StencilTest {
-            test: Test::of(b.stenciltest),
+            test: Test::from(b.stenciltest),
             reference: b.stencilreference,
             mask: b.stencilmask,
         };
         let actions = StencilActions {
-            fail: StencilAction::of(b.fail),
-            pass: StencilAction::of(b.pass),
+            fail: StencilAction::from(b.fail),
+            pass: StencilAction::from(b.pass),
         };
         let blend = Blend {
-            source: Factor::of(b.source),
-            target: Factor::of(b.target),
+            source: Factor::from(b.source),
+            target: Factor::from(b.target),
         };
         Ink {
             colour: colour,

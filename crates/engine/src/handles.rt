@@ -196,7 +196,7 @@ pub fn judge(h: Handle, v: Vertex, memory: u32) -> Judged
     Judged::Drawable(Bitmap {
         area: area,
         start: start as u32,
-        format: Format::of(h.format),
+        format: Format::from(h.format),
         stride: h.stride as u32,
         height: h.rows as u32,
     })

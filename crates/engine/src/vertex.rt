@@ -117,12 +117,9 @@ fn point_event(v: Vertex, size: u32) -> Event
 fn rectangle_event(c: Corner, v: Vertex, width: u32) -> Event
     ensures { result ≡ rectangled c v width }
 {
-    let cx = c.x;
-    let cy = c.y;
-    let vx = v.x;
-    let vy = v.y;
-    let drawn = Rectangle::of(cx, cy, vx, vy, LengthInSixteenths(width));
-    Event::Draw(Shape::Rectangle(drawn))
+    let corner = End { x: c.x, y: c.y };
+    let opposite = End { x: v.x, y: v.y };
+    Event::Draw(Shape::Rectangle(Rectangle::of(corner, opposite, LengthInSixteenths(width))))
 }
 
 #[tactic(auto, unfolding(crate::specs::Vertex::segmented))]

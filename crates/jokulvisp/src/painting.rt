@@ -3,14 +3,13 @@ ghost use Rattle.std.specs.Prelude.{◌≡◌, length};
 ghost use Rattle.jokulvisp.specs.Paint.{is_lent, Lends, RowsAnswer, PaintRowAnswer, PaintAnswer};
 
 use crate::check::{JvAnswer, answer};
-use units::less;
 
 // The frame's limits may be broken here, and three times the pixels past 64 bits: so they are taken off the picture's length twice.
 pub fn is_lent(width: u32, rows: u32, picture: usize, tags: usize) -> bool
     ensures { result ≡ is_lent width rows picture tags }
 {
     let pixels = (rows as u64) * (width as u64);
-    let last = less(less(picture as u64, pixels), pixels);
+    let last = (picture as u64).saturating_sub(pixels).saturating_sub(pixels);
     (last == pixels) & (tags as u64 == pixels)
 }
 

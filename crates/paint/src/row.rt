@@ -97,8 +97,8 @@ fn texel_at(texture: Texture, p: Pixels, q: Pixels, memory: &[u8]) -> Colour
         Texture::White => pixel::white(),
         Texture::Of(bitmap) => {
             let area = bitmap.area;
-            let column = units::less(p.0, area.left.0);
-            let line = units::less(q.0, area.top.0);
+            let column = p.0.saturating_sub(area.left.0);
+            let line = q.0.saturating_sub(area.top.0);
             texel::texel(bitmap, column, line, memory)
         }
     }

@@ -1,13 +1,16 @@
 -- How much is ahead of the two lists, that a walk ends.
 use mathlib.Core.Bool.{Bool, true, false, ◌||◌}
 use mathlib.Core.List.{List}
-use mathlib.Core.Path.{◌≡◌, refl, sym}
+use mathlib.Core.Path.{◌≡◌, refl, sym, ◌∙◌, ap, subst}
 use Rattle.std.specs.Prelude.{Option, Some, None}
 use Prim.Native.Nat.{ℕ, ◌+◌, ◌<◌, ◌≤◌}
 use native.Mathlib.Omega.{arith}
 use lib.ListN.{length}
 use Rattle.truth.proofs.Bools.{never}
 use Rattle.action.specs.declared.Action.{Action}
+use Rattle.std.specs.Option.{option_eq}
+use Rattle.action.specs.contracts.ActionPartialEq.TheImpl as action
+use Rattle.action.proofs.Sameness.{action_tells}
 use Rattle.engine.specs.Running.{actions_left}
 use Rattle.engine.specs.declared.running.Run.{Run}
 use Rattle.std.specs.Iterator.{YieldsFirst}
@@ -47,3 +50,17 @@ pub came : (before : Run) (here : Option Action) (after : Run) → YieldsFirst a
 unfolding with_rest
 came before (Some a) after e = sym e
 came before None after e = sym e.0
+
+-- what `==` of an Option of actions answers
+pub same_here : (old new : Option Action) → option_eq (action.ghosts).eq old new ≡ true → old ≡ new
+same_here (Some a) (Some b) e = ap (λ (x : Action). Some x) ((action_tells a b).holds e)
+same_here (Some a) None e = never e
+same_here None (Some b) e = never e
+same_here None None e = refl
+
+pub apart_here : (old new : Option Action) → option_eq (action.ghosts).eq old new ≡ false → old ≡ new → ⊥
+apart_here old new e s = go old (subst (λ (n : Option Action). option_eq (action.ghosts).eq old n ≡ false) (sym s) e)
+  where
+    go : (find : Option Action) → option_eq (action.ghosts).eq find find ≡ false → ⊥
+    go (Some a) f = never (sym f ∙ (action_tells a a).told refl)
+    go None f = never (sym f)

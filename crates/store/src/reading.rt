@@ -54,21 +54,21 @@ fn ink_in(numbers: &[u32]) -> Ink
         alpha: numbers[10],
     };
     let alpha = AlphaTest {
-        test: Test::of(numbers[11]),
+        test: Test::from(numbers[11]),
         reference: numbers[12],
     };
     let stencil = StencilTest {
-        test: Test::of(numbers[13]),
+        test: Test::from(numbers[13]),
         reference: numbers[14],
         mask: numbers[15],
     };
     let actions = StencilActions {
-        fail: StencilAction::of(numbers[16]),
-        pass: StencilAction::of(numbers[17]),
+        fail: StencilAction::from(numbers[16]),
+        pass: StencilAction::from(numbers[17]),
     };
     let blend = Blend {
-        source: Factor::of(numbers[18]),
-        target: Factor::of(numbers[19]),
+        source: Factor::from(numbers[18]),
+        target: Factor::from(numbers[19]),
     };
     Ink {
         colour: colour,
@@ -129,7 +129,7 @@ fn bitmap_in(numbers: &[u32], places: &[u64]) -> Bitmap
     Bitmap {
         area: area,
         start: numbers[21],
-        format: Format::of(numbers[22]),
+        format: Format::from(numbers[22]),
         stride: numbers[23],
         height: numbers[24],
     }

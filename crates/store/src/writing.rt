@@ -55,15 +55,15 @@ fn put_ink(kind: u32, ink: Ink, numbers: &mut [u32])
     numbers[8] = colour.green;
     numbers[9] = colour.blue;
     numbers[10] = colour.alpha;
-    numbers[11] = alpha_test.number();
+    numbers[11] = u32::from(alpha_test);
     numbers[12] = alpha.reference;
-    numbers[13] = stencil_test.number();
+    numbers[13] = u32::from(stencil_test);
     numbers[14] = stencil.reference;
     numbers[15] = stencil.mask;
-    numbers[16] = fail.number();
-    numbers[17] = pass.number();
-    numbers[18] = source.number();
-    numbers[19] = target.number();
+    numbers[16] = u32::from(fail);
+    numbers[17] = u32::from(pass);
+    numbers[18] = u32::from(source);
+    numbers[19] = u32::from(target);
     numbers[20] = ink.tag;
 }
 
@@ -110,7 +110,7 @@ fn put_bitmap(bitmap: Bitmap, ink: Ink, numbers: &mut [u32], places: &mut [u64])
     let format = bitmap.format;
     put_ink(3, ink, numbers);
     numbers[21] = bitmap.start;
-    numbers[22] = format.number();
+    numbers[22] = u32::from(format);
     numbers[23] = bitmap.stride;
     numbers[24] = bitmap.height;
     places[4] = area.left.0;

@@ -67,5 +67,5 @@ returns c =
       step = λ n. elim c.if-h-ne3.branch [ then-h-ne3+else-h-ne0+else-h-ne0-2 w ↦ w.if-h-ne0-2.false | else-h-ne3 w ↦ absurd (n w.if-h-ne3.false) ];
     }
     in
-    rw (c.of.ensures, c.cover-area.ensures, pixels-holding c.floor-2.ensures, pixels-holding c.floor.ensures)
+    rw (c.from.ensures, c.cover-area.ensures, pixels-holding c.floor-2.ensures, pixels-holding c.floor.ensures)
     (drawn _ _ _ d)

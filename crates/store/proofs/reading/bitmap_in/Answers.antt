@@ -4,4 +4,4 @@ use Rattle.store.proofs.reading.bitmap_in.Goals as goal
 pub returns : goal.returns
 unfolding bitmap_of
 returns c =
-    rw c.of.ensures
+    rw c.from.ensures
