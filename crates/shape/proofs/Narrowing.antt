@@ -275,6 +275,6 @@ far-narrows d q c far = record {
       };
 }
 
-pub segment-rows : (d : Segment) (r : Rows) → Bounds (o.Rectangle (box_of d)) r → Bounds (o.Segment d) r
+pub segment-rows : (d : Segment) (r : Rows Pixels) → Bounds (o.Rectangle (box_of d)) r → Bounds (o.Segment d) r
 unfolding covers
 segment-rows d r h = record { bound = λ p q k l e. h.bound p q k l (box-covers d p q e) }
