@@ -26,7 +26,7 @@ before p y l h = omega arith
 
 -- within the outline's rows and the scissor's
 pub band-of :
-    (outline : Outline) (scissor : Area) (r : Rows) → Bounds outline r → (x y : ℕ) → x < widest → y < tallest →
+    (outline : Outline) (scissor : Area) (r : Rows Pixels) → Bounds outline r → (x y : ℕ) → x < widest → y < tallest →
     reaches outline scissor (pixel_at x) (pixel_at y) ≡ true →
     (count_before tallest (record { 0 = larger r.top.0 scissor.top.0 }) ≤ y) × (y < count_before tallest (record { 0 = smaller r.bottom.0 scissor.bottom.0 }))
 unfolding reaches area_covers

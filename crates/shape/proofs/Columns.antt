@@ -113,7 +113,7 @@ pub point-has : (d : Point) (q : Pixels) (c : Chord) → Chords (o.Rectangle (sq
 point-has d q c h = record { exact = λ p k. square-covers d p q ∙ h.exact p k }
 
 -- the rows
-pub rectangle-rows : (d : Rectangle) (r : Rows) → r.top.0 ≤ (first_near d.top d.width).0 → (end_near d.bottom d.width).0 ≤ r.bottom.0 → Bounds (o.Rectangle d) r
+pub rectangle-rows : (d : Rectangle) (r : Rows Pixels) → r.top.0 ≤ (first_near d.top d.width).0 → (end_near d.bottom d.width).0 ≤ r.bottom.0 → Bounds (o.Rectangle d) r
 unfolding covers rectangle_covers
 rectangle-rows d r t b = record {
   bound = λ p q h k e.
@@ -121,10 +121,10 @@ rectangle-rows d r t b = record {
       (omega arith, omega arith);
 }
 
-pub point-rows : (d : Point) (r : Rows) → Bounds (o.Rectangle (square_of d)) r → Bounds (o.Point d) r
+pub point-rows : (d : Point) (r : Rows Pixels) → Bounds (o.Rectangle (square_of d)) r → Bounds (o.Point d) r
 point-rows d r h = record { bound = λ p q k l e. h.bound p q k l (sym (square-covers d p q) ∙ e) }
 
-pub nothing-rows : (r : Rows) → Bounds o.Nothing r
+pub nothing-rows : (r : Rows Pixels) → Bounds o.Nothing r
 unfolding covers
 nothing-rows r = record { bound = λ p q h k e. never e }
 

@@ -6,6 +6,7 @@ pub mod Means
 pub mod Narrowing
 mod Order
 pub mod Reaching
+pub mod Searching
 mod Sizes
 pub mod Spans
 pub mod Squares

@@ -17,7 +17,7 @@ use Rattle.shape.specs.declared.Outline.TheVariants as o
 use Rattle.shape.specs.declared.Chord.{Chord}
 use Rattle.shape.specs.declared.Rows.{Rows}
 use Rattle.shape.specs.Cover.{between, squared, sample_at, to_mean, near_mean, segment_covers, rectangle_covers, area_covers, covers, reaches}
-use Rattle.shape.specs.Lines.{Between, FirstCovered, LastCovered, Leans, OnScreen, box_of, by_rest, by_squares}
+use Rattle.shape.specs.Lines.{Between, Leans, OnScreen, box_of, by_rest, by_squares}
 use Rattle.shape.specs.OneRow.{Bounds, Chords, Narrows, Reached, Shown, boxed, cut_to, flat_over, holds_in, no_column}
 use Rattle.shape.proofs.Bools.{between-made, between-true}
 use Rattle.shape.proofs.Columns.{has_flat, has-none}
@@ -170,86 +170,73 @@ no_gap d q x y z l m e f =
     (covered-near d (record { 0 = x }) q e)
     (covered-near d (record { 0 = z }) q f))
 
--- one column more that is not covered, on either side
-pub none-on : (d : Segment) (q : Pixels) (from x : ℕ) → ((k : ℕ) → from ≤ k → k < x → segment_covers d (record { 0 = k }) q ≡ false) → segment_covers d (record { 0 = x }) q ≡ false → (k : ℕ) → from ≤ k → k < x + 1 → segment_covers d (record { 0 = k }) q ≡ false
-none-on d q from x before here k h l =
-    by_order k x (λ m. before k h m) (λ m. let e : k ≡ x = omega arith in rw e here)
+module _ (d : Segment) (q : Pixels) (c : Chord) (shown : Shown c) (line : Chord) (all : Between d q line.left.0 line.right.0) (from end : ℕ) (low : from ≡ larger c.left.0 line.left.0) (high : end ≡ smaller c.right.0 line.right.0) where
+  abbrev Covers : ℕ → Type 0
+  Covers x = segment_covers d (record { 0 = x }) q ≡ true
 
-pub none-back : (d : Segment) (q : Pixels) (x end : ℕ) → ((k : ℕ) → x ≤ k → k < end → segment_covers d (record { 0 = k }) q ≡ false) → segment_covers d (record { 0 = x - 1 }) q ≡ false → (k : ℕ) → x - 1 ≤ k → k < end → segment_covers d (record { 0 = k }) q ≡ false
-none-back d q x end after here k h l =
-    by_order k x (λ m. let e : k ≡ x - 1 = omega arith in rw e here) (λ m. after k m l)
+  abbrev Misses : ℕ → Type 0
+  Misses x = segment_covers d (record { 0 = x }) q ≡ false
 
-module _ (d : Segment) (q : Pixels) (c : Chord) (shown : Shown c) (line : Chord) (all : Between d q line.left.0 line.right.0) (from end : ℕ) where
-  abbrev leftmost : ℕ
-  leftmost = larger c.left.0 line.left.0
+  module _ (scissor : Area) (width : ℕ) (whole : Chord) (fits : width ≤ widest) (row : between scissor.top.0 scissor.bottom.0 q.0 ≡ true) (has : Chords (o.Rectangle (box_of d)) q whole) (cut : c ≡ cut_to scissor width whole) where
+    left : c.left.0 ≡ (cut_to scissor width whole).left.0
+    left = ap (λ (z : Chord). z.left.0) cut
 
-  abbrev rightmost : ℕ
-  rightmost = smaller c.right.0 line.right.0
+    right : c.right.0 ≡ (cut_to scissor width whole).right.0
+    right = ap (λ (z : Chord). z.right.0) cut
 
-  module _ (first : FirstCovered d q leftmost rightmost from) (last : LastCovered d q from rightmost end) where
-    -- the columns of the chord that are covered are those from the first to the last
-    in-columns : (x : ℕ) → c.left.0 ≤ x → x < c.right.0 → segment_covers d (record { 0 = x }) q ≡ true → between from end x ≡ true
-    in-columns x l r e =
-        let s = all.all (record { 0 = x }) (omega arith, omega arith) e in
-        between-made from end x
-        (by_order x from (λ m. absurd (never (sym (first.none x (omega arith) m) ∙ e))) (λ m. m))
-        (by_order x end (λ m. m) (λ m. absurd (never (sym (last.none x m (omega arith)) ∙ e))))
+    -- a column that counts lies in the frame, in the scissor, in the box and near the line
+    counts : (x : ℕ) → x < width → reaches (o.Segment d) scissor (pixel_at x) q ≡ true → ((from ≤ (pixel_at x).0) × ((pixel_at x).0 < end)) × Covers (pixel_at x).0
+    unfolding reaches covers area_covers
+    counts x h e =
+        let t = both_true _ (segment_covers d (pixel_at x) q) e in
+        let u = between-true scissor.left.0 scissor.right.0 (pixel_at x).0 (both_true _ _ t.0).0 in
+        let v = both_true _ (holds_in whole (pixel_at x)) (sym (has.exact (pixel_at x) (omega arith)) ∙ box-covers d (pixel_at x) q t.1) in
+        let w = between-true whole.left.0 whole.right.0 (pixel_at x).0 v.0 in
+        let s = all.all (pixel_at x) (omega arith, omega arith) t.1 in
+        ((omega (arith, left), omega (arith, right)), t.1)
 
-    columns-covered : (x : ℕ) → from ≤ x → x < end → segment_covers d (record { 0 = x }) q ≡ true
-    columns-covered x l m =
-        no_gap d q from x (end - 1) l (omega arith) (first.one (omega (arith, last.to))) (last.one (omega arith))
+    none-reached : ((x : ℕ) → from ≤ x → x < end → Misses x) → Reached (o.Segment d) scissor width q no_column
+    none-reached none = record {
+      exact = λ x h.
+          not_so _ (λ e. let t = counts x h e in never (sym (none _ t.0.0 t.0.1) ∙ t.1))
+          ∙ sym (has-none (pixel_at x));
+      from = omega arith;
+      to = omega arith;
+    }
 
-    module _ (scissor : Area) (width : ℕ) (whole : Chord) (fits : width ≤ widest) (row : between scissor.top.0 scissor.bottom.0 q.0 ≡ true) (has : Chords (o.Rectangle (box_of d)) q whole) (cut : c ≡ cut_to scissor width whole) where
-      left : c.left.0 ≡ (cut_to scissor width whole).left.0
-      left = ap (λ (z : Chord). z.left.0) cut
+    module _ (first last : ℕ) (f : (from ≤ first) × (first < end) × Covers first × ((x : ℕ) → from ≤ x → x < first → Misses x)) (l : (first ≤ last) × (last < end) × Covers last × ((x : ℕ) → last < x → x < end → Misses x)) where
+      -- the columns lie in the frame and in the scissor
+      inside : (((pixel_at 0).0 ≤ first) × (scissor.left.0 ≤ first)) × ((last < (pixel_at width).0) × (last < scissor.right.0))
+      inside = ((omega (arith, left, f.0), omega (arith, left, f.0)), (omega (arith, right, l.1), omega (arith, right, l.1)))
 
-      right : c.right.0 ≡ (cut_to scissor width whole).right.0
-      right = ap (λ (z : Chord). z.right.0) cut
-
-      -- the chord's columns lie in the frame and in the scissor, and each that does there and in the box is one of them
-      inside : (((pixel_at 0).0 ≤ c.left.0) × (scissor.left.0 ≤ c.left.0)) × ((c.right.0 ≤ (pixel_at width).0) × (c.right.0 ≤ scissor.right.0))
-      inside = ((omega (arith, left), omega (arith, left)), (omega (arith, right), omega (arith, right)))
-
-      from-left : (x : ℕ) → (pixel_at 0).0 ≤ x → scissor.left.0 ≤ x → whole.left.0 ≤ x → c.left.0 ≤ x
-      from-left x f s w = omega (arith, left)
-
-      to-right : (x : ℕ) → x < (pixel_at width).0 → x < scissor.right.0 → x < whole.right.0 → x < c.right.0
-      to-right x f s w = omega (arith, right)
-
-      columns-in : (c.left.0 ≤ from) × (end ≤ c.right.0)
-      columns-in = (omega (arith, first.on), omega (arith, last.to))
-
-      columns-reached : Reached (o.Segment d) scissor width q (flat_over (record { 0 = from }) (record { 0 = end }))
+      columns-reached : Reached (o.Segment d) scissor width q (flat_over (record { 0 = first }) (record { 0 = last + 1 }))
       unfolding reaches covers area_covers
       columns-reached = record {
         exact = λ x h.
             same_truth _ _
             (λ e.
-            let t = both_true _ (segment_covers d (pixel_at x) q) e in
-            let u = between-true scissor.left.0 scissor.right.0 (pixel_at x).0 (both_true _ _ t.0).0 in
-            let v = both_true _ (holds_in whole (pixel_at x)) (sym (has.exact (pixel_at x) (omega arith)) ∙ box-covers d (pixel_at x) q t.1) in
-            let w = between-true whole.left.0 whole.right.0 (pixel_at x).0 v.0 in
-            has_flat (record { 0 = from }) (record { 0 = end }) (pixel_at x) (omega arith)
-            ∙ in-columns (pixel_at x).0 (from-left _ (omega arith) u.0 w.0) (to-right _ (omega arith) u.1 w.1) t.1)
+            let t = counts x h e in
+            has_flat (record { 0 = first }) (record { 0 = last + 1 }) (pixel_at x) (omega arith)
+            ∙ between-made first (last + 1) (pixel_at x).0
+            (by_order (pixel_at x).0 first (λ m. absurd (never (sym (f.3 _ t.0.0 m) ∙ t.1))) (λ m. m))
+            (by_order last (pixel_at x).0 (λ m. absurd (never (sym (l.3 _ m t.0.1) ∙ t.1))) (λ m. omega arith)))
             (λ e.
-            let u = between-true from end (pixel_at x).0 (sym (has_flat (record { 0 = from }) (record { 0 = end }) (pixel_at x) (omega arith)) ∙ e) in
+            let u = between-true first (last + 1) (pixel_at x).0 (sym (has_flat (record { 0 = first }) (record { 0 = last + 1 }) (pixel_at x) (omega arith)) ∙ e) in
             both-made
             (both-made
-            (between-made scissor.left.0 scissor.right.0 (pixel_at x).0 (omega (arith, inside, columns-in, u)) (omega (arith, inside, columns-in, u)))
+            (between-made scissor.left.0 scissor.right.0 (pixel_at x).0 (omega (arith, inside, u)) (omega (arith, inside, u)))
             row)
-            (columns-covered (pixel_at x).0 u.0 u.1));
-        from = omega (arith, inside, columns-in);
-        to = omega (arith, inside, columns-in);
+            (no_gap d q first (pixel_at x).0 last u.0 (omega arith) f.2 l.2));
+        from = omega (arith, inside);
+        to = omega (arith, inside);
       }
 
-    pub columns-narrow : Narrows (o.Segment d) q c (flat_over (record { 0 = from }) (record { 0 = end }))
-    columns-narrow = record { reached = columns-reached }
+  -- what the two searches for the first and the last covered column find
+  pub none-narrow : ((x : ℕ) → from ≤ x → x < end → Misses x) → Narrows (o.Segment d) q c no_column
+  none-narrow none = record { reached = λ scissor width whole fits row has cut. none-reached scissor width whole fits row has cut none }
 
-pub cut-shown : (scissor : Area) (width : ℕ) (whole c : Chord) → width ≤ widest → c ≡ cut_to scissor width whole → Shown c
-cut-shown scissor width whole c fits cut =
-    let l = ap (λ (z : Chord). z.left.0) cut in
-    let r = ap (λ (z : Chord). z.right.0) cut in
-    (omega arith, omega arith)
+  pub columns-narrow : (first last : ℕ) → (from ≤ first) × (first < end) × Covers first × ((x : ℕ) → from ≤ x → x < first → Misses x) → (first ≤ last) × (last < end) × Covers last × ((x : ℕ) → last < x → x < end → Misses x) → Narrows (o.Segment d) q c (flat_over (record { 0 = first }) (record { 0 = last + 1 }))
+  columns-narrow first last f l = record { reached = λ scissor width whole fits row has cut. columns-reached scissor width whole fits row has cut first last f l }
 
 -- what is no segment is its own box
 pub plain-narrows : (outline : Outline) (q : Pixels) (c : Chord) → ((d : Segment) → outline ≡ o.Segment d → ⊥) → Narrows outline q c c
@@ -275,6 +262,6 @@ far-narrows d q c far = record {
       };
 }
 
-pub segment-rows : (d : Segment) (r : Rows) → Bounds (o.Rectangle (box_of d)) r → Bounds (o.Segment d) r
+pub segment-rows : (d : Segment) (r : Rows Pixels) → Bounds (o.Rectangle (box_of d)) r → Bounds (o.Segment d) r
 unfolding covers
 segment-rows d r h = record { bound = λ p q k l e. h.bound p q k l (box-covers d p q e) }

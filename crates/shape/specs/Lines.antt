@@ -52,14 +52,3 @@ Falls ax ay bx by y slack x = ay ≤ by → Comes (ax * by + y * bx) (bx * ay + 
 
 pub record Leans (ax ay bx by y slack : ℕ) (c : Chord) : Type 0 where
   pub all : (p : Pixels) → OnScreen p.0 → Falls ax ay bx by y slack (16 * p.0 - short_from) → Falls bx by ax ay y slack (16 * p.0 - short_from) → (c.left.0 ≤ p.0) × (p.0 < c.right.0)
-
--- the first column from one on, and before an end, that is covered; and the one after the last such column
-pub record FirstCovered (d : Segment) (q : Pixels) (from end r : ℕ) : Type 0 where
-  pub on : from ≤ r
-  pub none : (x : ℕ) → from ≤ x → x < r → segment_covers d (record { 0 = x }) q ≡ false
-  pub one : r < end → segment_covers d (record { 0 = r }) q ≡ true
-
-pub record LastCovered (d : Segment) (q : Pixels) (from end r : ℕ) : Type 0 where
-  pub to : r ≤ end
-  pub none : (x : ℕ) → r ≤ x → x < end → segment_covers d (record { 0 = x }) q ≡ false
-  pub one : from < r → segment_covers d (record { 0 = r - 1 }) q ≡ true

@@ -50,7 +50,7 @@ pub record Reached (outline : Outline) (scissor : Area) (width : ℕ) (q : Pixel
   pub to : c.right.0 ≤ (pixel_at width).0
 
 -- no row outside of these has a covered pixel
-pub record Bounds (outline : Outline) (r : Rows) : Type 0 where
+pub record Bounds (outline : Outline) (r : Rows Pixels) : Type 0 where
   pub bound : (p q : Pixels) → Sampled p → Sampled q → covers outline p q ≡ true → (r.top.0 ≤ q.0) × (q.0 < r.bottom.0)
 
 -- A point covers what a rectangle does whose corners both lie at its vertex.

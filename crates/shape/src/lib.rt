@@ -10,7 +10,7 @@ mod line;
 pub mod reach;
 
 use action::{Area, Point, Rectangle, Segment};
-use units::{Pixels, Sixteenths, least, less, most};
+use units::{Pixels, Sixteenths};
 
 // No pixel from here on has a sample of 64 bits.
 const PIXELS: u64 = 0x1000_0000_0000_0000;
@@ -41,40 +41,37 @@ pub struct Chord {
     pub room: u64,
 }
 
-// The rows that can be covered: `top` is in, `bottom` is not.
+// Rows, by their places or by their numbers in a frame: `top` is in, `bottom` is not.
 #[derive(Clone, Copy)]
-pub struct Rows {
-    pub top: Pixels,
-    pub bottom: Pixels,
+pub struct Rows<T> {
+    pub top: T,
+    pub bottom: T,
 }
 
 // How far a position lies from a closed range.
 fn gap(s: Sixteenths, low: Sixteenths, high: Sixteenths) -> u64
     ensures { result ≡ outside s low high }
 {
-    less(low.0, s.0) + less(s.0, high.0)
+    low.0.saturating_sub(s.0) + s.0.saturating_sub(high.0)
 }
 
 // A point covers what this rectangle does, so that only rectangles and areas are worked out.
 fn square(point: Point) -> Rectangle
     ensures { result ≡ square_of point }
 {
-    let x = point.x;
-    let y = point.y;
-    let size = point.size;
     Rectangle {
-        left: x,
-        top: y,
-        right: x,
-        bottom: y,
-        width: size,
+        left: point.x,
+        top: point.y,
+        right: point.x,
+        bottom: point.y,
+        width: point.size,
     }
 }
 
 fn has_row(area: Area, q: Pixels) -> bool
     ensures { result ≡ between area.top.0 area.bottom.0 q.0 }
 {
-    (area.top.0 <= q.0) & (q.0 < area.bottom.0)
+    (area.top <= q) & (q < area.bottom)
 }
 
 impl Chord {
@@ -83,13 +80,8 @@ impl Chord {
         requires { Sampled p }
         ensures { result ≡ holds_in self p }
     {
-        let near = self.near;
-        let far = self.far;
-        let d = gap(p.sample(), near, far);
-        if LONGEST < d {
-            return false;
-        }
-        d * d < self.room
+        let d = gap(p.sample(), self.near, self.far);
+        d <= LONGEST && d * d < self.room
     }
 
     // Whether it holds every column, so that none needs to be asked about.
@@ -124,9 +116,7 @@ impl Chord {
         ensures { Chords (Outline.Area area) q result }
     {
         if has_row(area, q) {
-            let left = area.left;
-            let right = area.right;
-            return Chord::flat(left, right);
+            return Chord::flat(area.left, area.right);
         }
         Chord::none()
     }
@@ -136,21 +126,16 @@ impl Chord {
         requires { Sampled q }
         ensures { Chords (Outline.Rectangle rectangle) q result }
     {
-        let left = rectangle.left;
-        let right = rectangle.right;
-        let top = rectangle.top;
-        let bottom = rectangle.bottom;
-        let reach = rectangle.width;
-        let width = reach.0 as u64;
-        let d = gap(q.sample(), top, bottom);
+        let width = rectangle.width.0 as u64;
+        let d = gap(q.sample(), rectangle.top, rectangle.bottom);
         if width < d {
             return Chord::none();
         }
         Chord {
-            left: left.first_near(reach),
-            right: right.end_near(reach),
-            near: left,
-            far: right,
+            left: rectangle.left.first_near(rectangle.width),
+            right: rectangle.right.end_near(rectangle.width),
+            near: rectangle.left,
+            far: rectangle.right,
             room: width * width - d * d + 1,
         }
     }
@@ -159,32 +144,21 @@ impl Chord {
     fn cut(self, scissor: Area, width: u32) -> Chord
         ensures { result ≡ cut_to scissor width self }
     {
-        let near = self.near;
-        let far = self.far;
-        let edge = Pixels::of(0);
-        let end = Pixels::of(width);
-        let from = most(edge.0, most(self.left.0, scissor.left.0));
-        let to = least(end.0, least(self.right.0, scissor.right.0));
         Chord {
-            left: Pixels(from),
-            right: Pixels(to),
-            near,
-            far,
-            room: self.room,
+            left: Pixels::of(0).max(self.left.max(scissor.left)),
+            right: Pixels::of(width).min(self.right.min(scissor.right)),
+            ..self
         }
     }
 }
 
-impl Rows {
-    fn of_rectangle(rectangle: Rectangle) -> Rows
+impl Rows<Pixels> {
+    fn of_rectangle(rectangle: Rectangle) -> Rows<Pixels>
         ensures { Bounds (Outline.Rectangle rectangle) result }
     {
-        let top = rectangle.top;
-        let bottom = rectangle.bottom;
-        let reach = rectangle.width;
         Rows {
-            top: top.first_near(reach),
-            bottom: bottom.end_near(reach),
+            top: rectangle.top.first_near(rectangle.width),
+            bottom: rectangle.bottom.end_near(rectangle.width),
         }
     }
 }
@@ -206,7 +180,7 @@ impl Outline {
     }
 
     // The rows outside of which nothing is covered.
-    pub fn rows(self) -> Rows
+    pub fn rows(self) -> Rows<Pixels>
         ensures { Bounds self result }
     {
         match self {
@@ -220,11 +194,10 @@ impl Outline {
             },
             Outline::Point(point) => Rows::of_rectangle(square(point)),
             Outline::Rectangle(rectangle) => Rows::of_rectangle(rectangle),
-            Outline::Area(area) => {
-                let top = area.top;
-                let bottom = area.bottom;
-                Rows { top, bottom }
-            }
+            Outline::Area(area) => Rows {
+                top: area.top,
+                bottom: area.bottom,
+            },
             Outline::Segment(segment) => Rows::of_rectangle(line::around(segment)),
         }
     }
@@ -246,9 +219,7 @@ impl Outline {
         ensures { Reached self scissor width q result }
     {
         if has_row(scissor, q) {
-            let whole = self.on_row(q);
-            let chord = whole.cut(scissor, width);
-            return self.narrow(chord, q);
+            return self.narrow(self.on_row(q).cut(scissor, width), q);
         }
         Chord::none()
     }
@@ -259,14 +230,6 @@ impl Outline {
         ensures { result ≡ reaches_row self scissor width q }
     {
         let chord = self.reach(scissor, width, q);
-        let end = chord.right.0;
-        let mut x = chord.left.0;
-        while x < end {
-            if chord.holds(Pixels(x)) {
-                return true;
-            }
-            x += 1;
-        }
-        false
+        (chord.left.0..chord.right.0).any(|x| chord.holds(Pixels(x)))
     }
 }

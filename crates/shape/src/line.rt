@@ -1,27 +1,26 @@
 // A segment of a line, row by row. Every number here fits 64 bits: its ends are short, and so are the samples of a frame.
-ghost use Rattle.std.specs.Prelude.{true, ◌≡◌, ◌≤◌, ◌<◌, ◌^◌};
-ghost use Rattle.units.specs.Units.{pixel_at, widest};
+ghost use Rattle.std.specs.Prelude.{true, ◌≡◌, ◌<◌, ◌-◌, ◌^◌};
+ghost use Rattle.units.specs.Units.{short_from};
 ghost use Rattle.action.specs.Ends.{short_ends};
 ghost use Rattle.shape.specs.Cover.{squared, segment_covers};
-ghost use Rattle.shape.specs.Lines.{Between, Close, Crosses, FirstCovered, LastCovered, Leans, OnScreen, box_of, by_squares};
+ghost use Rattle.shape.specs.Lines.{Between, Close, Crosses, Leans, OnScreen, box_of, by_squares};
 ghost use Rattle.shape.specs.OneRow.{Narrows, Shown};
 
 use crate::{Chord, Outline, PIXELS};
 use action::{End, Rectangle, Segment};
-use units::{LengthInSixteenths, Pixels, Sixteenths, least, less, most};
+use units::{LengthInSixteenths, Pixels, Sixteenths};
 
 // A segment covers nothing that this rectangle does not.
 pub fn around(segment: Segment) -> Rectangle
     ensures { result ≡ box_of segment }
 {
-    let from = segment.from;
-    let to = segment.to;
-    let ax = from.x;
-    let ay = from.y;
-    let bx = to.x;
-    let by = to.y;
-    let width = segment.width;
-    Rectangle::of(ax, ay, bx, by, width)
+    let Segment {
+        from,
+        to,
+        width,
+        ..
+    } = segment;
+    Rectangle::of(from.x, from.y, to.x, to.y, width)
 }
 
 // The squared distance of two places.
@@ -30,12 +29,8 @@ fn squared(a: End, b: End) -> u64
     ensures value { result ≡ squared a b }
     ensures upper_bound { result < 2 ^ 33 }
 {
-    let ax = a.x;
-    let ay = a.y;
-    let bx = b.x;
-    let by = b.y;
-    let across = ax.apart(bx);
-    let down = ay.apart(by);
+    let across = a.x.apart(b.x);
+    let down = a.y.apart(b.y);
     across * across + down * down
 }
 
@@ -66,8 +61,7 @@ fn covers(segment: Segment, p: Pixels, q: Pixels) -> bool
     requires { (short_ends segment ≡ true) × (OnScreen p.0 × OnScreen q.0) }
     ensures { result ≡ segment_covers segment p q }
 {
-    let from = segment.from;
-    let to = segment.to;
+    let Segment { from, to, .. } = segment;
     let width = segment.width.0 as u64;
     let sample = End {
         x: p.sample(),
@@ -81,34 +75,24 @@ fn covers(segment: Segment, p: Pixels, q: Pixels) -> bool
     )
 }
 
-// The first column that is covered, or the end.
-fn first_covered(segment: Segment, q: Pixels, from: u64, end: u64) -> u64
-    requires { (short_ends segment ≡ true) × (OnScreen q.0 × (((pixel_at 0).0 ≤ from) × (end ≤ (pixel_at widest).0))) }
-    ensures { FirstCovered segment q from end result }
-{
-    let mut x = from;
-    while x < end {
-        if covers(segment, Pixels(x), q) {
-            return x;
-        }
-        x += 1;
-    }
-    x
+// A place that is close, counted from where the short positions begin.
+#[derive(Clone, Copy)]
+struct Place {
+    x: u64,
+    y: u64,
+    ghost small: { (x < 2 ^ 16) × (y < 2 ^ 16) },
 }
 
-// The column after the last one that is covered, or the first.
-fn last_covered(segment: Segment, q: Pixels, from: u64, end: u64) -> u64
-    requires { (short_ends segment ≡ true) × (OnScreen q.0 × (((pixel_at 0).0 ≤ from) × (end ≤ (pixel_at widest).0))) }
-    ensures { LastCovered segment q from end result }
-{
-    let mut x = end;
-    while from < x {
-        if covers(segment, Pixels(x - 1), q) {
-            return x;
+impl Place {
+    fn of(end: End) -> Place
+        requires { Close end }
+        ensures { (result.x ≡ end.x.0 - short_from) × (result.y ≡ end.y.0 - short_from) }
+    {
+        Place {
+            x: end.x.counted(),
+            y: end.y.counted(),
         }
-        x -= 1;
     }
-    x
 }
 
 // The columns where rise times the sample, and `under`, come as near to `more` as `slack`.
@@ -116,8 +100,8 @@ fn crossing(more: u64, under: u64, slack: u64, rise: u64) -> Chord
     requires { (0 < rise) × ((more < 2 ^ 40) × ((under < 2 ^ 40) × (slack < 2 ^ 52))) }
     ensures { Crosses more under slack rise result }
 {
-    let low = less(more, under + slack) / rise;
-    let high = less(more + slack, under) / rise;
+    let low = more.saturating_sub(under + slack) / rise;
+    let high = (more + slack).saturating_sub(under) / rise;
     Chord::flat(
         Sixteenths::short(low).first_near(LengthInSixteenths(0)),
         Sixteenths::short(high).end_near(LengthInSixteenths(0)),
@@ -125,17 +109,17 @@ fn crossing(more: u64, under: u64, slack: u64, rise: u64) -> Chord
 }
 
 // The columns in which a row at y comes near the line through two places; all of them, if that does not cross the row.
-fn leaning(ax: u64, ay: u64, bx: u64, by: u64, y: u64, slack: u64) -> Chord
-    requires { ((ax < 2 ^ 16) × (ay < 2 ^ 16)) × (((bx < 2 ^ 16) × (by < 2 ^ 16)) × ((y < 2 ^ 16) × (slack < 2 ^ 52))) }
-    ensures { Leans ax ay bx by y slack result }
+fn leaning(a: Place, b: Place, y: u64, slack: u64) -> Chord
+    requires { (y < 2 ^ 16) × (slack < 2 ^ 52) }
+    ensures { Leans a.x a.y b.x b.y y slack result }
 {
-    let one = ax * by + y * bx;
-    let other = bx * ay + y * ax;
-    if ay < by {
-        return crossing(one, other, slack, by - ay);
+    let one = a.x * b.y + y * b.x;
+    let other = b.x * a.y + y * a.x;
+    if a.y < b.y {
+        return crossing(one, other, slack, b.y - a.y);
     }
-    if by < ay {
-        return crossing(other, one, slack, ay - by);
+    if b.y < a.y {
+        return crossing(other, one, slack, a.y - b.y);
     }
     Chord::flat(Pixels(0), Pixels(PIXELS))
 }
@@ -146,21 +130,9 @@ fn near_line(segment: Segment, q: Pixels) -> Chord
     requires { (short_ends segment ≡ true) × OnScreen q.0 }
     ensures { Between segment q result.left.0 result.right.0 }
 {
-    let from = segment.from;
-    let to = segment.to;
-    let ax = from.x;
-    let ay = from.y;
-    let bx = to.x;
-    let by = to.y;
-    let slack = segment.width.0 as u64 * (ax.apart(bx) + ay.apart(by));
-    leaning(
-        ax.counted(),
-        ay.counted(),
-        bx.counted(),
-        by.counted(),
-        q.sample().counted(),
-        slack,
-    )
+    let Segment { from, to, .. } = segment;
+    let slack = segment.width.0 as u64 * (from.x.apart(to.x) + from.y.apart(to.y));
+    leaning(Place::of(from), Place::of(to), q.sample().counted(), slack)
 }
 
 // Of the chord's columns, those from the first to the last that the segment covers: it has no gap.
@@ -168,13 +140,18 @@ pub fn columns(chord: Chord, segment: Segment, q: Pixels) -> Chord
     requires { OnScreen q.0 × Shown chord }
     ensures { Narrows (Outline.Segment segment) q chord result }
 {
-    if segment.is_short() {
-        let line = near_line(segment, q);
-        let left = most(chord.left.0, line.left.0);
-        let right = least(chord.right.0, line.right.0);
-        let from = first_covered(segment, q, left, right);
-        let end = last_covered(segment, q, from, right);
-        return Chord::flat(Pixels(from), Pixels(end));
+    if !segment.is_short() {
+        return Chord::none();
     }
-    Chord::none()
+    let line = near_line(segment, q);
+    let left = chord.left.max(line.left);
+    let right = chord.right.min(line.right);
+    let Some(first) = (left.0..right.0).find(|x| covers(segment, Pixels(*x), q)) else {
+        return Chord::none();
+    };
+    let last = (first..right.0)
+        .rev()
+        .find(|x| covers(segment, Pixels(*x), q))
+        .unwrap_or(first);
+    Chord::flat(Pixels(first), Pixels(last + 1))
 }

@@ -1,6 +1,6 @@
 use native.Mathlib.Omega.{arith}
 use Rattle.shape.proofs.Columns.{rectangle-rows}
-use Rattle.shape.proofs.Rows.of_rectangle.Goals as goal
+use Rattle.shape.proofs.Rows+Pixels.of_rectangle.Goals as goal
 
 pub returns : goal.returns
 returns c =
