@@ -5,7 +5,7 @@ ghost use Rattle.repaint.specs.Rows.{Bounded, Compares, Stood, Touches, Turns, b
 
 use action::Action;
 use shape::reach;
-use shape::reach::Band;
+use shape::Rows;
 use units::TALLEST;
 
 // How a row stands that has no mark yet, which is 0 or 1.
@@ -39,12 +39,12 @@ fn meets(find: Option<Action>, width: u32, y: u32) -> bool
     }
 }
 
-fn rows_of(find: Option<Action>) -> Band
+fn rows_of(find: Option<Action>) -> Rows<u32>
     ensures { Bounded find result.top result.bottom }
 {
     match find {
         Some(action) => reach::rows_of(action),
-        None => Band {
+        None => Rows {
             top: 0,
             bottom: TALLEST,
         },
@@ -81,7 +81,7 @@ fn stand(old: bool, new: bool, pace: Pace) -> u8
 }
 
 // The rows that can stand otherwise after this step: those of the actions that are passed.
-fn touched(old: Option<Action>, new: Option<Action>, pace: Pace) -> Band
+fn touched(old: Option<Action>, new: Option<Action>, pace: Pace) -> Rows<u32>
     ensures { Touches old new pace result.top result.bottom }
 {
     if !pace.new {
@@ -92,7 +92,7 @@ fn touched(old: Option<Action>, new: Option<Action>, pace: Pace) -> Band
     }
     let a = rows_of(old);
     let b = rows_of(new);
-    Band {
+    Rows {
         top: a.top.min(b.top),
         bottom: a.bottom.max(b.bottom),
     }

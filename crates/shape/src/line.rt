@@ -14,13 +14,7 @@ use units::{LengthInSixteenths, Pixels, Sixteenths};
 pub fn around(segment: Segment) -> Rectangle
     ensures { result ≡ box_of segment }
 {
-    let Segment {
-        from,
-        to,
-        width,
-        ..
-    } = segment;
-    Rectangle::of(from.x, from.y, to.x, to.y, width)
+    Rectangle::of(segment.from, segment.to, segment.width)
 }
 
 // The squared distance of two places.
