@@ -9,6 +9,7 @@ use borrow.Author.Tests.{lt-ltb, le-ltb}
 use lib.ListN.{length}
 use Rattle.engine.specs.declared.kept.Engine.{Engine}
 use Rattle.engine.specs.declared.context.Context.{Context}
+use Rattle.engine.specs.declared.handles.Handles.{Handles}
 use Rattle.engine.specs.declared.machine.Event.{Event}
 use Rattle.engine.specs.declared.machine.Event.TheVariants as e
 use Rattle.engine.specs.declared.machine.Shape.{Shape}
@@ -32,7 +33,7 @@ module _ (list : List ℕ) (memory : ℕ) (x : State) (allowed : ℕ) where
       rw (le-ltb _ _ h, k)
 
   -- a step taken inside the list
-  module _ (s : Stepped) (hs : List ℕ) (is : s ≡ (step_of list memory x).stepped) (are : hs ≡ (step_of list memory x).handles) where
+  module _ (s : Stepped) (hs : Handles) (is : s ≡ (step_of list memory x).stepped) (are : hs ≡ (step_of list memory x).handles) where
     pub turn : (left : ℕ) → 0 < left → place_of x < length list →
         run list memory left x ≡
         after (place_of x) (settled s.event (record { now = s.machine; kept = x.engine.kept })).now.context s.event

@@ -3,7 +3,7 @@ ghost use Rattle.std.specs.Prelude.{◌≡◌};
 ghost use Rattle.engine.specs.Command.{clears, obeys};
 
 use crate::drawn::{is_drawn_format, is_drawn_primitive, is_drawn_size};
-use crate::handles::{SETTINGS, put_layout, put_layout_high, put_size, put_size_high, put_source};
+use crate::handles::{Handles, Layout, LayoutHigh, Size};
 use crate::machine::{Event, Flags, Machine, Shape};
 use crate::vertex::{Vertex, place2f, place2ii};
 use words::Word;
@@ -35,7 +35,7 @@ fn clear_event(colour: u32, stencil: u32, tag: u32) -> Event
 impl Machine {
     // What a command does. Those that are not drawn yet give 13, by the word alone.
     #[tactic(auto, unfolding(crate::specs::Command::obeys))]
-    pub fn obey(mut self, handles: &mut [u32; SETTINGS], word: Word) -> Obeyed
+    pub fn obey(mut self, handles: &mut Handles, word: Word) -> Obeyed
         ensures { (result ≡ (obeys self handles.old word).obeyed) × (handles.new ≡ (obeys self handles.old word).handles) }
     {
         let current = self.context.placing.handle;
@@ -52,7 +52,7 @@ impl Machine {
             )),
             Word::Display => Then::Tell(Event::Ended),
             Word::BitmapSource { addr } => {
-                put_source(handles, current, addr);
+                handles.put_source(current, addr);
                 quiet
             }
             Word::ClearColorRgb { red, green, blue } => {
@@ -85,7 +85,12 @@ impl Machine {
                 height,
             } => {
                 if is_drawn_format(format) {
-                    put_layout(handles, current, format, linestride, height);
+                    let layout = Layout {
+                        format,
+                        stride: linestride,
+                        height,
+                    };
+                    handles.put_layout(current, layout);
                     quiet
                 } else {
                     undrawn
@@ -99,7 +104,7 @@ impl Machine {
                 height,
             } => {
                 if is_drawn_size(filter, wrapx, wrapy) {
-                    put_size(handles, current, width, height);
+                    handles.put_size(current, Size { width, height });
                     quiet
                 } else {
                     undrawn
@@ -232,11 +237,15 @@ impl Machine {
                 quiet
             }
             Word::BitmapLayoutH { linestride, height } => {
-                put_layout_high(handles, current, linestride, height);
+                let high = LayoutHigh {
+                    stride: linestride,
+                    height,
+                };
+                handles.put_layout_high(current, high);
                 quiet
             }
             Word::BitmapSizeH { width, height } => {
-                put_size_high(handles, current, width, height);
+                handles.put_size_high(current, Size { width, height });
                 quiet
             }
             Word::PaletteSource { addr: _ } => undrawn,

@@ -13,6 +13,6 @@ mod machine;
 mod run;
 mod vertex;
 
-pub use handles::SETTINGS;
+pub use handles::Handles;
 pub use kept::Engine;
 pub use run::{Advanced, Ending, Find, Stop, advance, finish};

@@ -6,7 +6,7 @@ ghost use Rattle.engine.specs.Machine.{started, steps};
 
 use crate::command::Then;
 use crate::context::Context;
-use crate::handles::SETTINGS;
+use crate::handles::Handles;
 use crate::vertex::Corner;
 use action::{Bitmap, Point, Rectangle, Segment};
 use units::Sixteenths;
@@ -86,7 +86,7 @@ impl Machine {
 
     // A word read and obeyed.
     #[tactic(auto, unfolding(crate::specs::Machine::steps))]
-    pub fn step(self, handles: &mut [u32; SETTINGS], memory: u32, bits: u32) -> Stepped
+    pub fn step(self, handles: &mut Handles, memory: u32, bits: u32) -> Stepped
         requires { memory ≤ most_memory }
         ensures { (result ≡ (steps self handles.old memory bits).stepped) × (handles.new ≡ (steps self handles.old memory bits).handles) }
     {

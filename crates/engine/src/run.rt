@@ -4,7 +4,7 @@ ghost use Rattle.engine.specs.Advance.{is_kept, found, Advances};
 ghost use Rattle.engine.specs.Run.{WithinLimits, clear_of, drawing_of, action_of, stop_at, ending_of, run_of};
 
 use crate::context::Context;
-use crate::handles::SETTINGS;
+use crate::handles::Handles;
 use crate::kept::{Engine, Kept};
 use crate::machine::{Event, Flags, Machine, Shape};
 use action::{Action, Clear, Drawing};
@@ -124,7 +124,7 @@ fn is_kept(count: usize) -> bool
 // together for that.
 pub fn advance(
     from: Engine,
-    handles: &mut [u32; SETTINGS],
+    handles: &mut Handles,
     list: &[u8],
     memory: u32,
     allowed: u32,
@@ -222,7 +222,7 @@ pub fn finish(list: &[u8], memory: u32, limit: u32) -> Ending
     requires { WithinLimits list.now memory }
     ensures { result ≡ ending_of (run_of list.now memory limit) }
 {
-    let mut handles = [0; SETTINGS];
+    let mut handles = Handles::unset();
     let advanced = advance(Engine::start(), &mut handles, list, memory, limit, false);
     let left = advanced.left;
     let find = advanced.find;
