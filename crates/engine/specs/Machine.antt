@@ -6,6 +6,7 @@ use Rattle.words.specs.declared.reading.Read.{Read}
 use Rattle.words.specs.declared.reading.Read.TheVariants as r
 use Rattle.engine.specs.declared.command.Then.{Then}
 use Rattle.engine.specs.declared.command.Then.TheVariants as t
+use Rattle.engine.specs.declared.fault.Fault.TheVariants as fault
 use Rattle.engine.specs.declared.handles.Handles.{Handles}
 use Rattle.engine.specs.declared.machine.Event.TheVariants as e
 use Rattle.engine.specs.declared.machine.Machine.{Machine}
@@ -38,8 +39,8 @@ follows m hs memory (t.Place vertex) = record { stepped = vertexed m hs memory v
 abbrev pub steps_by : Machine → Handles → ℕ → Read → Steps
 steps_by m hs memory (r.Command word) =
     follows (obeys m hs word).obeyed.machine (obeys m hs word).handles memory (obeys m hs word).obeyed.then
-steps_by m hs memory r.NoCommand = record { stepped = record { machine = m; event = e.Fault 11 }; handles = hs }
-steps_by m hs memory r.NoMeaning = record { stepped = record { machine = m; event = e.Fault 12 }; handles = hs }
+steps_by m hs memory r.NoCommand = record { stepped = record { machine = m; event = e.Fault fault.NoCommand }; handles = hs }
+steps_by m hs memory r.NoMeaning = record { stepped = record { machine = m; event = e.Fault fault.NoMeaning }; handles = hs }
 
 unfoldable pub steps : Machine → Handles → ℕ → ℕ → Steps
 steps m hs memory bits = steps_by m hs memory (read_word bits)

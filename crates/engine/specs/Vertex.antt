@@ -7,6 +7,7 @@ use Rattle.action.specs.declared.shape.Segment.{Segment}
 use Rattle.action.specs.Corners.{corners_in_order}
 use Rattle.action.specs.Ends.{short_ends}
 use Rattle.engine.specs.declared.context.Placing.{Placing}
+use Rattle.engine.specs.declared.fault.Fault.TheVariants as fault
 use Rattle.engine.specs.declared.handles.Handles.{Handles}
 use Rattle.engine.specs.declared.machine.Event.{Event}
 use Rattle.engine.specs.declared.machine.Event.TheVariants as e
@@ -56,7 +57,7 @@ rectangled c v width = e.Draw (s.Rectangle (corners_in_order c.x c.y v.x v.y (re
 
 abbrev pub bitmapped : Option Bitmap → Event
 bitmapped (Some b) = e.Draw (s.Bitmap b)
-bitmapped None = e.Fault 18
+bitmapped None = e.Fault fault.Undrawable
 
 -- the second corner draws, and a third vertex opens a new rectangle
 abbrev pub cornered : Machine → Vertex → Stepped
@@ -75,7 +76,7 @@ segment_from c v width primitive =
 
 -- '20 when an end lies outside -32768..32767 sixteenths, .. at the vertex that completes the segment'
 unfoldable pub segmented : Segment → Event
-segmented d = cond (short_ends d) (e.Draw (s.Segment d)) (e.Fault 20)
+segmented d = cond (short_ends d) (e.Draw (s.Segment d)) (e.Fault fault.EndTooFar)
 
 -- a vertex that finds no open end opens one; else it completes a segment and leaves `next`, open or closed
 abbrev pub linked : Machine → Vertex → Corner → Stepped
@@ -92,4 +93,4 @@ vertexed m hs memory v =
     (cond (eqb m.primitive 3) (linked m v (closed m.corner))
     (cond (eqb m.primitive 4) (linked m v (opened_at v))
     (cond (eqb m.primitive 9) (cornered m v)
-    (record { machine = m; event = e.Fault 17 })))))
+    (record { machine = m; event = e.Fault fault.NothingBegun })))))

@@ -3,6 +3,7 @@ ghost use Rattle.std.specs.Prelude.{◌≡◌};
 ghost use Rattle.engine.specs.Command.{clears, obeys};
 
 use crate::drawn::{is_drawn_format, is_drawn_primitive, is_drawn_size};
+use crate::fault::Fault;
 use crate::handles::{Handles, Layout, LayoutHigh, Size};
 use crate::machine::{Event, Flags, Machine, Shape};
 use crate::vertex::{Vertex, place2f, place2ii};
@@ -33,14 +34,14 @@ fn clear_event(colour: u32, stencil: u32, tag: u32) -> Event
 }
 
 impl Machine {
-    // What a command does. Those that are not drawn yet give 13, by the word alone.
+    // What a command does. Those that are not drawn yet are refused by the word alone.
     #[tactic(auto, unfolding(crate::specs::Command::obeys))]
     pub fn obey(mut self, handles: &mut Handles, word: Word) -> Obeyed
         ensures { (result ≡ (obeys self handles.old word).obeyed) × (handles.new ≡ (obeys self handles.old word).handles) }
     {
         let current = self.context.placing.handle;
         let quiet = Then::Tell(Event::Quiet);
-        let undrawn = Then::Tell(Event::Fault(13));
+        let undrawn = Then::Tell(Event::Fault(Fault::NotDrawn));
         let then = match word {
             Word::Vertex2f { x, y } => Then::Place(place2f(self.context.placing, x, y)),
             Word::Vertex2ii { x, y, handle, cell } => Then::Place(place2ii(
@@ -185,11 +186,11 @@ impl Machine {
             }
             Word::Call { dest } => {
                 if 4 <= self.depth {
-                    Then::Tell(Event::Fault(14))
+                    Then::Tell(Event::Fault(Fault::CallsTooDeep))
                 } else if dest % 4 == 0 {
                     Then::Tell(Event::Call(dest))
                 } else {
-                    Then::Tell(Event::Fault(16))
+                    Then::Tell(Event::Fault(Fault::NotAWord))
                 }
             }
             Word::Jump { dest } => {
@@ -197,7 +198,7 @@ impl Machine {
                     self.at = dest;
                     quiet
                 } else {
-                    Then::Tell(Event::Fault(16))
+                    Then::Tell(Event::Fault(Fault::NotAWord))
                 }
             }
             Word::Begin { prim } => {
@@ -225,7 +226,7 @@ impl Machine {
             Word::RestoreContext => Then::Tell(Event::Restore),
             Word::Return => {
                 if self.depth == 0 {
-                    Then::Tell(Event::Fault(15))
+                    Then::Tell(Event::Fault(Fault::NothingToReturnTo))
                 } else {
                     Then::Tell(Event::Return)
                 }

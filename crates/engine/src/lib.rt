@@ -7,12 +7,14 @@
 mod command;
 mod context;
 mod drawn;
+mod fault;
 mod handles;
 mod kept;
 mod machine;
 mod run;
 mod vertex;
 
+pub use fault::Fault;
 pub use handles::Handles;
 pub use kept::Engine;
 pub use run::{Advanced, Ending, Find, Stop, advance, finish};

@@ -6,6 +6,7 @@ ghost use Rattle.engine.specs.Machine.{started, steps};
 
 use crate::command::Then;
 use crate::context::Context;
+use crate::fault::Fault;
 use crate::handles::Handles;
 use crate::vertex::Corner;
 use action::{Bitmap, Point, Rectangle, Segment};
@@ -43,7 +44,7 @@ pub enum Shape {
 }
 
 // What a word came to: nothing to tell, a context to save or to restore, a call to take or to return from, an action, the
-// list's end, or a number of document 01's table.
+// list's end, or a fault.
 #[derive(Clone, Copy)]
 pub enum Event {
     Quiet,
@@ -53,7 +54,7 @@ pub enum Event {
     Return,
     Draw(Shape),
     Ended,
-    Fault(u32),
+    Fault(Fault),
 }
 
 #[derive(Clone, Copy)]
@@ -105,11 +106,11 @@ impl Machine {
             }
             Read::NoCommand => Stepped {
                 machine: self,
-                event: Event::Fault(11),
+                event: Event::Fault(Fault::NoCommand),
             },
             Read::NoMeaning => Stepped {
                 machine: self,
-                event: Event::Fault(12),
+                event: Event::Fault(Fault::NoMeaning),
             },
         }
     }

@@ -4,6 +4,7 @@ ghost use Rattle.engine.specs.Advance.{is_kept, found, Advances};
 ghost use Rattle.engine.specs.Run.{WithinLimits, clear_of, drawing_of, action_of, stop_at, ending_of, run_of};
 
 use crate::context::Context;
+use crate::fault::Fault;
 use crate::handles::Handles;
 use crate::kept::{Engine, Kept};
 use crate::machine::{Event, Flags, Machine, Shape};
@@ -139,7 +140,7 @@ pub fn advance(
     while 0 < left {
         let at = now.at;
         if list.len() <= wide(at) {
-            return over(now, kept, left, 10, at);
+            return over(now, kept, left, Fault::PastTheEnd.number(), at);
         }
         left = left - 1;
         let bits = runs::word_at(list, at);
@@ -201,13 +202,13 @@ pub fn advance(
             Event::Ended => {
                 return over(now, kept, left, 0, 0);
             }
-            Event::Fault(number) => {
-                return over(now, kept, left, number, at);
+            Event::Fault(fault) => {
+                return over(now, kept, left, fault.number(), at);
             }
         }
     }
     let at = now.at;
-    over(now, kept, left, 19, at)
+    over(now, kept, left, Fault::LimitReached.number(), at)
 }
 
 // How a run ends, and how many words it fetched.

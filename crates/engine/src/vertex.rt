@@ -5,6 +5,7 @@ ghost use Rattle.engine.specs.Run.{most_memory};
 ghost use Rattle.engine.specs.Vertex.{unit_of, placed2f, placed2ii, opened_at, pointed, rectangled, bitmapped, segment_from, segmented, vertexed};
 
 use crate::context::Placing;
+use crate::fault::Fault;
 use crate::handles::Handles;
 use crate::machine::{Event, Machine, Shape, Stepped};
 use action::{End, Point, Rectangle, Segment};
@@ -133,7 +134,7 @@ fn segment_event(c: Corner, v: Vertex, width: u32, primitive: u32) -> Event
     if drawn.is_short() {
         return Event::Draw(Shape::Segment(drawn));
     }
-    Event::Fault(20)
+    Event::Fault(Fault::EndTooFar)
 }
 
 fn bitmap_event(handles: &Handles, v: Vertex, memory: u32) -> Event
@@ -142,7 +143,7 @@ fn bitmap_event(handles: &Handles, v: Vertex, memory: u32) -> Event
 {
     match handles.bitmap(v, memory) {
         Some(bitmap) => Event::Draw(Shape::Bitmap(bitmap)),
-        None => Event::Fault(18),
+        None => Event::Fault(Fault::Undrawable),
     }
 }
 
@@ -189,7 +190,7 @@ impl Machine {
                     rectangle_event(corner, v, self.context.placing.linewidth)
                 }
             }
-            _ => Event::Fault(17),
+            _ => Event::Fault(Fault::NothingBegun),
         };
         Stepped {
             machine: self,
