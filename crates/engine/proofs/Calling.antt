@@ -1,19 +1,19 @@
 -- A call and a return are told only where the engine can take them: with fewer than four calls open, and with one at least. Assumes nothing.
 use mathlib.Core.Path.{◌≡◌}
-use mathlib.Core.List.{List}
 use Prim.Native.Nat.{ℕ, ◌%◌, ◌<◌}
 use native.Mathlib.Omega.{arith}
 use lib.Dec.{eqb, leb}
 use borrow.Author.Tests.{eqb-false, leb-false}
 use Rattle.truth.proofs.Bools.{by-test}
+use Rattle.std.specs.Prelude.{Option, Some, None}
+use Rattle.action.specs.declared.shape.Bitmap.{Bitmap}
 use Rattle.action.specs.Ends.{short_ends}
 use Rattle.words.specs.Words.{read_word}
 use Rattle.words.specs.declared.reading.Read.{Read}
 use Rattle.words.specs.declared.reading.Read.TheVariants as r
 use Rattle.words.specs.declared.word.Word.{Word}
 use Rattle.words.specs.declared.word.Word.TheVariants as v
-use Rattle.engine.specs.declared.handles.Judged.{Judged}
-use Rattle.engine.specs.declared.handles.Judged.TheVariants as j
+use Rattle.engine.specs.declared.handles.Handles.{Handles}
 use Rattle.engine.specs.declared.vertex.Vertex.{Vertex}
 use Rattle.engine.specs.declared.vertex.Corner.{Corner}
 use Rattle.engine.specs.declared.machine.Event.{Event}
@@ -23,7 +23,7 @@ use Rattle.engine.specs.declared.machine.Stepped.{Stepped}
 use Rattle.engine.specs.declared.command.Then.{Then}
 use Rattle.engine.specs.declared.command.Then.TheVariants as t
 use Rattle.engine.specs.Changes.{with_corner}
-use Rattle.engine.specs.Handles.{handle_at, judged}
+use Rattle.engine.specs.Handles.{bitmap_at}
 use Rattle.engine.specs.Command.{Obeys, obeys}
 use Rattle.engine.specs.Drawn.{drawn_format, drawn_size, drawn_primitive}
 use Rattle.engine.specs.Machine.{follows, steps_by, steps}
@@ -37,7 +37,7 @@ Ready (e.Call to) m = m.depth < 4
 Ready e.Return m = 0 < m.depth
 Ready (e.Draw shape) m = Unit
 Ready e.Ended m = Unit
-Ready (e.Fault number) m = Unit
+Ready (e.Fault fault) m = Unit
 
 abbrev ReadyThen : Then → Machine → Type 0
 ReadyThen (t.Tell event) m = Ready event m
@@ -49,7 +49,7 @@ ReadyBy o = ReadyThen o.obeyed.then o.obeyed.machine
 abbrev pub ReadyStep : Stepped → Type 0
 ReadyStep s = Ready s.event s.machine
 
-obeyed-ready : (m : Machine) (hs : List ℕ) (word : Word) → ReadyBy (obeys m hs word)
+obeyed-ready : (m : Machine) (hs : Handles) (word : Word) → ReadyBy (obeys m hs word)
 unfolding obeys
 obeyed-ready m hs (v.Vertex2f x y) = tt
 obeyed-ready m hs (v.Vertex2ii x y handle cell) = tt
@@ -100,9 +100,9 @@ obeyed-ready m hs (v.VertexTranslateX x) = tt
 obeyed-ready m hs (v.VertexTranslateY y) = tt
 obeyed-ready m hs v.Nop = tt
 
-bitmap-ready : (m : Machine) (b : Judged) → Ready (bitmapped b) m
-bitmap-ready m (j.Drawable b) = tt
-bitmap-ready m j.Undrawable = tt
+bitmap-ready : (m : Machine) (b : Option Bitmap) → Ready (bitmapped b) m
+bitmap-ready m (Some b) = tt
+bitmap-ready m None = tt
 
 linked-ready : (m : Machine) (v : Vertex) (next : Corner) → ReadyStep (linked m v next)
 unfolding segmented
@@ -110,31 +110,31 @@ linked-ready m v next =
     by-test ReadyStep (eqb m.corner.waits 0) (λ _. tt)
     (λ _. by-test (λ event. Ready event (with_corner m next)) (short_ends (segment_from m.corner v m.context.placing.linewidth m.primitive)) (λ _. tt) (λ _. tt))
 
-vertexed-ready : (m : Machine) (hs : List ℕ) (memory : ℕ) (v : Vertex) → ReadyStep (vertexed m hs memory v)
+vertexed-ready : (m : Machine) (hs : Handles) (memory : ℕ) (v : Vertex) → ReadyStep (vertexed m hs memory v)
 unfolding vertexed
 vertexed-ready m hs memory v =
-    by-test ReadyStep (eqb m.primitive 1) (λ _. bitmap-ready m (judged (handle_at hs v.handle) v memory))
+    by-test ReadyStep (eqb m.primitive 1) (λ _. bitmap-ready m (bitmap_at hs v memory))
     (λ _. by-test ReadyStep (eqb m.primitive 2) (λ _. tt)
     (λ _. by-test ReadyStep (eqb m.primitive 3) (λ _. linked-ready m v (closed m.corner))
     (λ _. by-test ReadyStep (eqb m.primitive 4) (λ _. linked-ready m v (opened_at v))
     (λ _. by-test ReadyStep (eqb m.primitive 9) (λ _. by-test ReadyStep (eqb m.corner.waits 0) (λ _. tt) (λ _. tt))
     (λ _. tt)))))
 
-followed-ready : (m : Machine) (hs : List ℕ) (memory : ℕ) (then : Then) → ReadyThen then m → ReadyStep (follows m hs memory then).stepped
+followed-ready : (m : Machine) (hs : Handles) (memory : ℕ) (then : Then) → ReadyThen then m → ReadyStep (follows m hs memory then).stepped
 followed-ready m hs memory (t.Tell event) h = h
 followed-ready m hs memory (t.Place vertex) h = vertexed-ready m hs memory vertex
 
-read-ready : (m : Machine) (hs : List ℕ) (memory : ℕ) (read : Read) → ReadyStep (steps_by m hs memory read).stepped
+read-ready : (m : Machine) (hs : Handles) (memory : ℕ) (read : Read) → ReadyStep (steps_by m hs memory read).stepped
 read-ready m hs memory (r.Command word) =
     followed-ready _ (obeys m hs word).handles memory (obeys m hs word).obeyed.then (obeyed-ready m hs word)
 read-ready m hs memory r.NoCommand = tt
 read-ready m hs memory r.NoMeaning = tt
 
-stepped-ready : (m : Machine) (hs : List ℕ) (memory bits : ℕ) → ReadyStep (steps m hs memory bits).stepped
+stepped-ready : (m : Machine) (hs : Handles) (memory bits : ℕ) → ReadyStep (steps m hs memory bits).stepped
 unfolding steps
 stepped-ready m hs memory bits = read-ready m hs memory (read_word bits)
 
-module _ (m : Machine) (hs : List ℕ) (memory bits : ℕ) (s : Stepped) (is : s ≡ (steps m hs memory bits).stepped) where
+module _ (m : Machine) (hs : Handles) (memory bits : ℕ) (s : Stepped) (is : s ≡ (steps m hs memory bits).stepped) where
   ready : ReadyStep s
   ready = rw is (stepped-ready m hs memory bits)
 

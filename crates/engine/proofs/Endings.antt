@@ -4,13 +4,14 @@ use mathlib.Core.Bool.{false, false≢true}
 use mathlib.Core.List.{List}
 use Prim.Native.Nat.{ℕ, ◌-◌, ◌≤◌}
 use Rattle.action.specs.declared.Action.{Action}
+use Rattle.engine.specs.declared.handles.Handles.{Handles}
 use Rattle.engine.specs.declared.run.Advanced.{Advanced}
 use Rattle.engine.specs.declared.run.Find.TheVariants as f
 use Rattle.engine.specs.declared.run.Stop.{Stop}
 use Rattle.engine.specs.Advance.{Advances, Spent, then, heard}
 use Rattle.engine.specs.Run.{State, run, ending_of}
 
-module _ (list : List ℕ) (memory allowed : ℕ) (from : State) (a : Advanced) (hs : List ℕ) (h : Advances list memory allowed false from a hs) where
+module _ (list : List ℕ) (memory allowed : ℕ) (from : State) (a : Advanced) (hs : Handles) (h : Advances list memory allowed false from a hs) where
   pub within : (stop : Stop) → a.find ≡ f.Over stop → a.left ≤ allowed
   unfolding Spent
   within stop e = rw e at h.spent

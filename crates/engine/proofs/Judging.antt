@@ -1,27 +1,28 @@
 -- Which bitmaps are drawn: `drawable` as facts about a handle's numbers, and `judged` by them. Assumes nothing.
-use mathlib.Core.Path.{◌≡◌, refl}
-use mathlib.Core.Bool.{Bool, true, false}
-use Prim.Native.Nat.{ℕ, ◌+◌, ◌*◌, ◌%◌, ◌<◌, ◌≤◌}
+use mathlib.Core.Path.{◌≡◌}
+use mathlib.Core.Bool.{true}
+use Prim.Native.Nat.{ℕ, ◌+◌, ◌*◌, ◌<◌, ◌≤◌}
 use native.Mathlib.Nat.{mul_comm, le-mul_of_pos_right}
 use native.Mathlib.Omega.{arith}
-use lib.Dec.{eqb}
-use borrow.Author.Tests.{ltb-true, leb-true, eqb-true, eqb-false, lt-ltb, le-leb, eq-eqb, ne_eqb}
-use Rattle.truth.proofs.Bools.{both_true, both-made, not_so}
+use borrow.Author.Tests.{ltb-true, leb-true, lt-ltb, le-leb}
+use Rattle.std.specs.Prelude.{Some, None}
+use Rattle.truth.proofs.Bools.{both_true, not_so}
 use Rattle.engine.specs.Handles.{cell_start, aligned, drawable, bitmap_of, judged}
 use Rattle.engine.specs.declared.handles.Handle.{Handle}
-use Rattle.engine.specs.declared.handles.Judged.TheVariants as j
 use Rattle.engine.specs.declared.vertex.Vertex.{Vertex}
 
 -- what `drawable` tells
 pub record Drawn (h : Handle) (cell memory : ℕ) : Type 0 where
-  pub given : h.given ≡ true
   pub stride : 0 < h.stride
   pub rows : 0 < h.rows
   pub width : 0 < h.width.0
   pub height : 0 < h.height.0
   pub inside : cell_start h cell + h.stride * h.rows ≤ memory
-  pub start : (h.format ≡ 3 → ⊥) → h.source % 2 ≡ 0
-  pub step : (h.format ≡ 3 → ⊥) → h.stride % 2 ≡ 0
+  pub aligned : aligned h ≡ true
+
+-- where a cell starts, by how long a cell is
+pub start_by : (h : Handle) {cell n size : ℕ} → n ≡ cell → size ≡ h.stride * h.rows → n * size + h.source ≡ cell_start h cell
+start_by h e f = rw (e, f) (omega arith)
 
 -- a cell in RAM_G has no line longer, and no more lines, than RAM_G has bytes
 pub line-fits : {h : Handle} {cell memory : ℕ} → Drawn h cell memory → h.stride ≤ memory
@@ -29,9 +30,6 @@ line-fits {h} d = omega (arith, le-mul_of_pos_right h.stride d.rows)
 
 pub lines_fit : {h : Handle} {cell memory : ℕ} → Drawn h cell memory → h.rows ≤ memory
 lines_fit {h} d = omega (arith, mul_comm h.stride h.rows, le-mul_of_pos_right h.rows d.stride)
-
-two_bytes : (h : Handle) → (h.format ≡ 3 → ⊥) → aligned h ≡ true → (eqb (h.source % 2) 0 ≡ true) × (eqb (h.stride % 2) 0 ≡ true)
-two_bytes h n a = both_true _ _ (rw (ne_eqb h.format 3 n) at a)
 
 told : (h : Handle) (cell memory : ℕ) → drawable h cell memory ≡ true → Drawn h cell memory
 unfolding drawable
@@ -41,27 +39,20 @@ told h cell memory e =
     let e4 = both_true _ _ e5.0 in
     let e3 = both_true _ _ e4.0 in
     let e2 = both_true _ _ e3.0 in
-    let e1 = both_true _ _ e2.0 in
     record {
-      given = e1.0;
-      stride = ltb-true 0 h.stride e1.1;
+      stride = ltb-true 0 h.stride e2.0;
       rows = ltb-true 0 h.rows e2.1;
       width = ltb-true 0 h.width.0 e3.1;
       height = ltb-true 0 h.height.0 e4.1;
       inside = leb-true _ memory e5.1;
-      start = λ n. eqb-true (h.source % 2) 0 (two_bytes h n e6.1).0;
-      step = λ n. eqb-true (h.stride % 2) 0 (two_bytes h n e6.1).1;
+      aligned = e6.1;
     }
 
-pub undrawn : (h : Handle) (v : Vertex) (memory : ℕ) → (Drawn h v.cell memory → ⊥) → j.Undrawable ≡ judged h v memory
+pub undrawn : (h : Handle) (v : Vertex) (memory : ℕ) → (Drawn h v.cell memory → ⊥) → None ≡ judged h v memory
 unfolding judged
 undrawn h v memory n = rw (not_so (drawable h v.cell memory) (λ e. n (told h v.cell memory e)))
 
-evened : (b : Bool) {h : Handle} {cell memory : ℕ} → Drawn h cell memory → eqb h.format 3 ≡ b → aligned h ≡ true
-evened true d e = rw e
-evened false {h} d e = let n = eqb-false h.format 3 e in rw e (both-made (eq-eqb _ 0 (d.start n)) (eq-eqb _ 0 (d.step n)))
-
-pub drawn : (h : Handle) (v : Vertex) (memory : ℕ) → Drawn h v.cell memory → j.Drawable (bitmap_of h v) ≡ judged h v memory
+pub drawn : (h : Handle) (v : Vertex) (memory : ℕ) → Drawn h v.cell memory → Some (bitmap_of h v) ≡ judged h v memory
 unfolding judged drawable
 drawn h v memory d =
-    rw (d.given, lt-ltb _ _ d.stride, lt-ltb _ _ d.rows, lt-ltb _ _ d.width, lt-ltb _ _ d.height, le-leb _ _ d.inside, evened _ d refl)
+    rw (lt-ltb _ _ d.stride, lt-ltb _ _ d.rows, lt-ltb _ _ d.width, lt-ltb _ _ d.height, le-leb _ _ d.inside, d.aligned)

@@ -9,12 +9,15 @@ use borrow.Author.Tests.{lt-ltb, le-ltb}
 use lib.ListN.{length}
 use Rattle.engine.specs.declared.kept.Engine.{Engine}
 use Rattle.engine.specs.declared.context.Context.{Context}
+use Rattle.engine.specs.declared.fault.Fault.{Fault}
+use Rattle.engine.specs.declared.handles.Handles.{Handles}
 use Rattle.engine.specs.declared.machine.Event.{Event}
 use Rattle.engine.specs.declared.machine.Event.TheVariants as e
 use Rattle.engine.specs.declared.machine.Shape.{Shape}
 use Rattle.engine.specs.declared.machine.Stepped.{Stepped}
 use Rattle.engine.specs.declared.run.Find.TheVariants as f
 use Rattle.engine.specs.Advance.{more, then, heard}
+use Rattle.engine.specs.Fault.{fault_number}
 use Rattle.engine.specs.Run.{State, place_of, step_of, settled, action_of, stop_at, Ran, run, after, counted}
 
 -- one word more, counted here or there
@@ -32,7 +35,7 @@ module _ (list : List ℕ) (memory : ℕ) (x : State) (allowed : ℕ) where
       rw (le-ltb _ _ h, k)
 
   -- a step taken inside the list
-  module _ (s : Stepped) (hs : List ℕ) (is : s ≡ (step_of list memory x).stepped) (are : hs ≡ (step_of list memory x).handles) where
+  module _ (s : Stepped) (hs : Handles) (is : s ≡ (step_of list memory x).stepped) (are : hs ≡ (step_of list memory x).handles) where
     pub turn : (left : ℕ) → 0 < left → place_of x < length list →
         run list memory left x ≡
         after (place_of x) (settled s.event (record { now = s.machine; kept = x.engine.kept })).now.context s.event
@@ -76,9 +79,9 @@ module _ (list : List ℕ) (memory : ℕ) (x : State) (allowed : ℕ) where
           let k : allowed - left + 1 ≡ allowed - (left - 1) = omega arith in
           rw (turn left some inside, h, k)
 
-      pub faulted : (number : ℕ) → s.event ≡ e.Fault number → (rest : Ran) →
-          more (allowed - left) (run list memory left x) ≡ then (allowed - (left - 1)) (f.Over (stop_at number (place_of x))) rest
+      pub faulted : (fault : Fault) → s.event ≡ e.Fault fault → (rest : Ran) →
+          more (allowed - left) (run list memory left x) ≡ then (allowed - (left - 1)) (f.Over (stop_at (fault_number fault) (place_of x))) rest
       unfolding after then
-      faulted number h rest =
+      faulted fault h rest =
           let k : allowed - left + 1 ≡ allowed - (left - 1) = omega arith in
           rw (turn left some inside, h, k)

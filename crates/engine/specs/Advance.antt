@@ -1,6 +1,7 @@
 -- A run gone on with, from one drawing action to the next. No sentence of a document stands behind these contracts: they say that what `advance` answers,
 -- followed by the run of the engine that it hands back, is the run that Run defines.
 use Rattle.std.specs.Prelude.{◌≡◌, Bool, true, false, ◌&&◌, List, ℕ, ◌+◌, ◌-◌, ◌<◌, ◌≤◌, ltb, leb}
+use Rattle.engine.specs.declared.handles.Handles.{Handles}
 use Rattle.engine.specs.declared.kept.Kept.{Kept}
 use Rattle.engine.specs.declared.machine.Machine.{Machine}
 use Rattle.engine.specs.declared.run.Advanced.{Advanced}
@@ -34,7 +35,7 @@ Spent halt allowed left (f.Drew action) = (halt ≡ true) × (left < allowed)
 Spent halt allowed left (f.Over stop) = left ≤ allowed
 
 -- the contract of `advance`: what it answers, with the run from there, is the whole run from here
-pub record Advances (list : List ℕ) (memory allowed : ℕ) (halt : Bool) (from : State) (a : Advanced) (after : List ℕ) : Type 0 where
+pub record Advances (list : List ℕ) (memory allowed : ℕ) (halt : Bool) (from : State) (a : Advanced) (after : Handles) : Type 0 where
   pub spent : Spent halt allowed a.left a.find
   pub whole :
       heard halt (run list memory allowed from) ≡

@@ -1,7 +1,6 @@
 -- The bitmap handles: what BITMAP_SOURCE, BITMAP_LAYOUT, BITMAP_SIZE and the two H words set, and which bitmap a vertex draws.
--- Document 01, 'Which pixels', from 'Cell c starts at' to 'on screen or off.' The settings lie in a list of numbers, sixteen places for each of
--- the 32 handles; what no word has set is 0.
-use Rattle.std.specs.Prelude.{Bool, cond, ◌&&◌, ◌||◌, List, ℕ, ◌+◌, ◌*◌, ◌%◌, ◌^◌, ◌<◌, eqb, ltb, leb, get_or, set}
+-- Document 01, 'Which pixels', from 'Cell c starts at' to 'on screen or off.'
+use Rattle.std.specs.Prelude.{Bool, cond, ◌&&◌, ◌||◌, Option, Some, None, ℕ, ◌+◌, ◌*◌, ◌%◌, ◌^◌, ◌<◌, eqb, ltb, leb, get_or, replicate, set, option_and_then}
 use Rattle.units.specs.Units.{floored, further_on}
 use Rattle.units.specs.declared.LengthInPixels.{LengthInPixels}
 use Rattle.units.specs.declared.Pixels.{Pixels}
@@ -9,61 +8,85 @@ use Rattle.action.specs.declared.shape.Area.{Area}
 use Rattle.action.specs.declared.shape.Bitmap.{Bitmap}
 use Rattle.action.specs.Numbers.{format_of}
 use Rattle.engine.specs.declared.handles.Handle.{Handle}
-use Rattle.engine.specs.declared.handles.Judged.{Judged}
-use Rattle.engine.specs.declared.handles.Judged.TheVariants as j
+use Rattle.engine.specs.declared.handles.Handles.{Handles}
+use Rattle.engine.specs.declared.handles.Layout.{Layout}
+use Rattle.engine.specs.declared.handles.LayoutHigh.{LayoutHigh}
+use Rattle.engine.specs.declared.handles.Settings.{Settings}
+use Rattle.engine.specs.declared.handles.Size.{Size}
 use Rattle.engine.specs.declared.vertex.Vertex.{Vertex}
 
--- how many numbers that are: sixteen times 32
-abbrev pub settings : ℕ
-settings = 512
-
--- a place of a handle; a handle's number has five bits
-abbrev pub place : ℕ → ℕ → ℕ
-place handle k = 16 * (handle % 32) + k
-
-abbrev pub put : List ℕ → ℕ → ℕ → ℕ → List ℕ
-put hs handle k value = set hs (place handle k) value
-
-abbrev pub get : List ℕ → ℕ → ℕ → ℕ
-get hs handle k = get_or hs (place handle k) 0
-
--- THE WORDS. Places 0, 2 and 6 tell that the main word was given: only main words set up a bitmap.
-unfoldable pub sourced : List ℕ → ℕ → ℕ → List ℕ
-sourced hs h address = put (put hs h 0 1) h 1 address
-
-unfoldable pub laid_out : List ℕ → ℕ → ℕ → ℕ → ℕ → List ℕ
-laid_out hs h format stride height = put (put (put (put hs h 2 1) h 3 format) h 4 stride) h 5 height
-
-unfoldable pub sized : List ℕ → ℕ → ℕ → ℕ → List ℕ
-sized hs h width height = put (put (put hs h 6 1) h 7 width) h 8 height
-
-unfoldable pub laid_out_high : List ℕ → ℕ → ℕ → ℕ → List ℕ
-laid_out_high hs h stride height = put (put hs h 9 stride) h 10 height
-
-unfoldable pub sized_high : List ℕ → ℕ → ℕ → ℕ → List ℕ
-sized_high hs h width height = put (put hs h 11 width) h 12 height
-
--- A HANDLE, main words and H words together
-unfoldable pub given : List ℕ → ℕ → Bool
-given hs h = eqb (get hs h 0) 1 && eqb (get hs h 2) 1 && eqb (get hs h 6) 1
-
--- low bits in one place, high bits in another
-unfoldable pub joined : List ℕ → ℕ → ℕ → ℕ → ℕ → ℕ
-joined hs h low high power = get hs h low + power * get hs h high
-
-unfoldable pub handle_at : List ℕ → ℕ → Handle
-handle_at hs h =
+-- 'Every run starts with all handles unset', and 'the H words start at 0'
+abbrev pub unset : Settings
+unset =
     record {
-      given = given hs h;
-      source = get hs h 1;
-      format = get hs h 3;
-      stride = joined hs h 4 9 1024;
-      rows = joined hs h 5 10 512;
-      width = record { 0 = joined hs h 7 11 512 };
-      height = record { 0 = joined hs h 8 12 512 };
+      source = None;
+      layout = None;
+      size = None;
+      layout_high = record { stride = 0; height = 0 };
+      size_high = record { width = 0; height = 0 };
     }
 
--- what a handle's numbers cannot exceed, since each of its places holds 32 bits
+abbrev pub all_unset : Handles
+all_unset = record { 0 = replicate 32 unset }
+
+-- one handle's settings, and all handles with only those changed; a handle's number has five bits
+abbrev pub settings_at : Handles → ℕ → Settings
+settings_at hs h = get_or hs.0 (h % 32) unset
+
+abbrev pub put : Handles → ℕ → Settings → Handles
+put hs h s = record { 0 = set hs.0 (h % 32) s }
+
+-- THE WORDS: each sets its own values of one handle and leaves the others as they are
+unfoldable pub sourced : Handles → ℕ → ℕ → Handles
+sourced hs h address =
+    let s = settings_at hs h in
+    put hs h (record { source = Some address; layout = s.layout; size = s.size; layout_high = s.layout_high; size_high = s.size_high })
+
+unfoldable pub laid_out : Handles → ℕ → Layout → Handles
+laid_out hs h layout =
+    let s = settings_at hs h in
+    put hs h (record { source = s.source; layout = Some layout; size = s.size; layout_high = s.layout_high; size_high = s.size_high })
+
+unfoldable pub sized : Handles → ℕ → Size → Handles
+sized hs h size =
+    let s = settings_at hs h in
+    put hs h (record { source = s.source; layout = s.layout; size = Some size; layout_high = s.layout_high; size_high = s.size_high })
+
+unfoldable pub laid_out_high : Handles → ℕ → LayoutHigh → Handles
+laid_out_high hs h high =
+    let s = settings_at hs h in
+    put hs h (record { source = s.source; layout = s.layout; size = s.size; layout_high = high; size_high = s.size_high })
+
+unfoldable pub sized_high : Handles → ℕ → Size → Handles
+sized_high hs h high =
+    let s = settings_at hs h in
+    put hs h (record { source = s.source; layout = s.layout; size = s.size; layout_high = s.layout_high; size_high = high })
+
+-- A HANDLE, main words and H words together: 'source, layout or size unset by its main word' leaves none
+abbrev pub joined : ℕ → ℕ → ℕ → ℕ
+joined low high power = low + power * high
+
+abbrev pub handle_of : Option ℕ → Option Layout → Option Size → LayoutHigh → Size → Option Handle
+handle_of (Some source) (Some layout) (Some size) layout_high size_high =
+    Some
+    (record {
+      source = source;
+      format = layout.format;
+      stride = joined layout.stride layout_high.stride 1024;
+      rows = joined layout.height layout_high.height 512;
+      width = record { 0 = joined size.width size_high.width 512 };
+      height = record { 0 = joined size.height size_high.height 512 };
+    })
+handle_of None layout size layout_high size_high = None
+handle_of (Some source) None size layout_high size_high = None
+handle_of (Some source) (Some layout) None layout_high size_high = None
+
+unfoldable pub handle_at : Handles → ℕ → Option Handle
+handle_at hs h =
+    let s = settings_at hs h in
+    handle_of s.source s.layout s.size s.layout_high s.size_high
+
+-- what a handle's numbers cannot exceed, since each part of them holds 32 bits
 pub record Narrow (h : Handle) : Type 0 where
   pub width : h.width.0 < 2 ^ 43
   pub height : h.height.0 < 2 ^ 43
@@ -76,11 +99,11 @@ cell_start h cell = h.source + cell * (h.stride * h.rows)
 abbrev pub aligned : Handle → Bool
 aligned h = eqb h.format 3 || eqb (h.source % 2) 0 && eqb (h.stride % 2) 0
 
--- not number 18: set up by its main words; no stride, height, drawn width or drawn height of 0; the cell wholly in RAM_G, where the next
+-- not number 18, of a handle that its main words have set up: no stride, height, drawn width or drawn height of 0; the cell wholly in RAM_G, where the next
 -- one would start no later than RAM_G ends; aligned
 unfoldable pub drawable : Handle → ℕ → ℕ → Bool
 drawable h cell memory =
-    h.given && ltb 0 h.stride && ltb 0 h.rows && ltb 0 h.width.0 && ltb 0 h.height.0 &&
+    ltb 0 h.stride && ltb 0 h.rows && ltb 0 h.width.0 && ltb 0 h.height.0 &&
     leb (cell_start h cell + h.stride * h.rows) memory && aligned h
 
 -- the pixels from a top left one on, so many wide and high; half open, as scissors are
@@ -98,5 +121,9 @@ bitmap_of h v =
       height = h.rows;
     }
 
-unfoldable pub judged : Handle → Vertex → ℕ → Judged
-judged h v memory = cond (drawable h v.cell memory) (j.Drawable (bitmap_of h v)) j.Undrawable
+unfoldable pub judged : Handle → Vertex → ℕ → Option Bitmap
+judged h v memory = cond (drawable h v.cell memory) (Some (bitmap_of h v)) None
+
+-- the bitmap that a vertex draws; none is number 18
+unfoldable pub bitmap_at : Handles → Vertex → ℕ → Option Bitmap
+bitmap_at hs v memory = option_and_then (λ h. judged h v memory) (handle_at hs v.handle)

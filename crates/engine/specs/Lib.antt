@@ -3,6 +3,7 @@ pub mod Changes
 pub mod Command
 pub mod Context
 pub mod Drawn
+pub mod Fault
 pub mod Handles
 pub mod Kept
 pub mod Machine

@@ -1,7 +1,7 @@
 -- The run of a list: its actions in order, and its number, place and count together. Document 01, 'Number table': the rows 0, 10 and 19, and
 -- 'Numbers 10 to 19 carry the byte offset of the word (for 10 and 19, the one that would be next). Words fetched are counted, the faulting
 -- one included'. Wish 1 of document 02 adds 20, which is told as these are.
-use Rattle.std.specs.Prelude.{cond, List, [], ◌∷◌, ℕ, zero, suc, ◌+◌, ◌^◌, ◌≤◌, ltb, length, replicate}
+use Rattle.std.specs.Prelude.{cond, List, [], ◌∷◌, ℕ, zero, suc, ◌+◌, ◌^◌, ◌≤◌, ltb, length}
 use Rattle.action.specs.declared.Action.{Action}
 use Rattle.action.specs.declared.ink.Clear.{Clear}
 use Rattle.action.specs.declared.Drawing.{Drawing}
@@ -10,6 +10,7 @@ use Rattle.runs.specs.Runs.{word_at}
 use Rattle.engine.specs.declared.running.Ending.{Ending}
 use Rattle.engine.specs.declared.run.Stop.{Stop}
 use Rattle.engine.specs.declared.context.Context.{Context}
+use Rattle.engine.specs.declared.handles.Handles.{Handles}
 use Rattle.engine.specs.declared.kept.Engine.{Engine}
 use Rattle.engine.specs.declared.machine.Event.{Event}
 use Rattle.engine.specs.declared.machine.Event.TheVariants as e
@@ -18,7 +19,8 @@ use Rattle.engine.specs.declared.machine.Shape.{Shape}
 use Rattle.engine.specs.declared.machine.Shape.TheVariants as s
 use Rattle.engine.specs.Changes.{with_place}
 use Rattle.engine.specs.Context.{ink_of, scissor_of}
-use Rattle.engine.specs.Handles.{settings}
+use Rattle.engine.specs.Fault.{fault_number}
+use Rattle.engine.specs.Handles.{all_unset}
 use Rattle.engine.specs.Kept.{begun, pushed, popped, called, returned}
 use Rattle.engine.specs.Machine.{Steps, steps}
 
@@ -50,7 +52,7 @@ action_of c shape = record { scissor = scissor_of c.placing; masks = c.masks; dr
 -- ONE STEP. What it changes; the list and RAM_G's length stay
 pub record State : Type 0 where
   pub engine : Engine
-  pub handles : List ℕ
+  pub handles : Handles
 
 abbrev pub place_of : State → ℕ
 place_of x = x.engine.now.at
@@ -71,7 +73,7 @@ settled (e.Call to) x = called x to
 settled e.Return x = returned x
 settled (e.Draw shape) x = x
 settled e.Ended x = x
-settled (e.Fault number) x = x
+settled (e.Fault fault) x = x
 
 abbrev pub next_of : List ℕ → ℕ → State → State
 next_of list memory x =
@@ -109,7 +111,7 @@ after at c (e.Call to) rest = counted rest
 after at c e.Return rest = counted rest
 after at c (e.Draw shape) rest = acted (action_of c shape) (counted rest)
 after at c e.Ended rest = stopped (stop_at 0 0) 1
-after at c (e.Fault number) rest = stopped (stop_at number at) 1
+after at c (e.Fault fault) rest = stopped (stop_at (fault_number fault) at) 1
 
 -- 19 before 10, and both before the word is looked at
 unfoldable pub run : List ℕ → ℕ → ℕ → State → Ran
@@ -121,7 +123,7 @@ run list memory (suc n) x =
 
 -- 'Every run starts with all handles unset.'
 abbrev pub at_start : State
-at_start = record { engine = begun; handles = replicate settings 0 }
+at_start = record { engine = begun; handles = all_unset }
 
 -- the run of a whole list, over a RAM_G of so many bytes and with so many words allowed
 abbrev pub run_of : List ℕ → ℕ → ℕ → Ran

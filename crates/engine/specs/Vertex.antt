@@ -1,13 +1,14 @@
 -- A vertex: where its word places it, and what it draws with the primitive that is begun. Document 01, 'Words and state', from 'A corner is placed' to
 -- 'then the translation is added', and the rows 17 and 18 of 'Number table'; wish 1 of document 02.
-use Rattle.std.specs.Prelude.{cond, List, ℕ, ◌-◌, ◌*◌, ◌^◌, eqb, ℤ, pos, ◌+ℤ◌, ◌*ℤ◌}
+use Rattle.std.specs.Prelude.{cond, Option, Some, None, ℕ, ◌-◌, ◌*◌, ◌^◌, eqb, ℤ, pos, ◌+ℤ◌, ◌*ℤ◌}
 use Rattle.units.specs.Units.{sixteenth_at, meant_translation}
+use Rattle.action.specs.declared.shape.Bitmap.{Bitmap}
 use Rattle.action.specs.declared.shape.Segment.{Segment}
 use Rattle.action.specs.Corners.{corners_in_order}
 use Rattle.action.specs.Ends.{short_ends}
 use Rattle.engine.specs.declared.context.Placing.{Placing}
-use Rattle.engine.specs.declared.handles.Judged.{Judged}
-use Rattle.engine.specs.declared.handles.Judged.TheVariants as j
+use Rattle.engine.specs.declared.fault.Fault.TheVariants as fault
+use Rattle.engine.specs.declared.handles.Handles.{Handles}
 use Rattle.engine.specs.declared.machine.Event.{Event}
 use Rattle.engine.specs.declared.machine.Event.TheVariants as e
 use Rattle.engine.specs.declared.machine.Machine.{Machine}
@@ -16,7 +17,7 @@ use Rattle.engine.specs.declared.machine.Stepped.{Stepped}
 use Rattle.engine.specs.declared.vertex.Corner.{Corner}
 use Rattle.engine.specs.declared.vertex.Vertex.{Vertex}
 use Rattle.engine.specs.Changes.{with_corner}
-use Rattle.engine.specs.Handles.{handle_at, judged}
+use Rattle.engine.specs.Handles.{bitmap_at}
 
 -- 'A VERTEX2F number is multiplied by 2^(4-frac), a VERTEX2II number by 16, then the translation is added.'
 abbrev pub unit_of : ℕ → ℕ
@@ -54,9 +55,9 @@ pointed v size = e.Draw (s.Point (record { x = v.x; y = v.y; size = record { 0 =
 abbrev pub rectangled : Corner → Vertex → ℕ → Event
 rectangled c v width = e.Draw (s.Rectangle (corners_in_order c.x c.y v.x v.y (record { 0 = width })))
 
-abbrev pub bitmapped : Judged → Event
-bitmapped (j.Drawable b) = e.Draw (s.Bitmap b)
-bitmapped j.Undrawable = e.Fault 18
+abbrev pub bitmapped : Option Bitmap → Event
+bitmapped (Some b) = e.Draw (s.Bitmap b)
+bitmapped None = e.Fault fault.Undrawable
 
 -- the second corner draws, and a third vertex opens a new rectangle
 abbrev pub cornered : Machine → Vertex → Stepped
@@ -75,7 +76,7 @@ segment_from c v width primitive =
 
 -- '20 when an end lies outside -32768..32767 sixteenths, .. at the vertex that completes the segment'
 unfoldable pub segmented : Segment → Event
-segmented d = cond (short_ends d) (e.Draw (s.Segment d)) (e.Fault 20)
+segmented d = cond (short_ends d) (e.Draw (s.Segment d)) (e.Fault fault.EndTooFar)
 
 -- a vertex that finds no open end opens one; else it completes a segment and leaves `next`, open or closed
 abbrev pub linked : Machine → Vertex → Corner → Stepped
@@ -85,11 +86,11 @@ linked m v next =
     (record { machine = with_corner m next; event = segmented (segment_from m.corner v m.context.placing.linewidth m.primitive) })
 
 -- 'In LINES vertices pair up; in a strip each vertex after the first ends a segment'. No primitive begun is 17
-unfoldable pub vertexed : Machine → List ℕ → ℕ → Vertex → Stepped
+unfoldable pub vertexed : Machine → Handles → ℕ → Vertex → Stepped
 vertexed m hs memory v =
-    cond (eqb m.primitive 1) (record { machine = m; event = bitmapped (judged (handle_at hs v.handle) v memory) })
+    cond (eqb m.primitive 1) (record { machine = m; event = bitmapped (bitmap_at hs v memory) })
     (cond (eqb m.primitive 2) (record { machine = m; event = pointed v m.context.placing.pointsize })
     (cond (eqb m.primitive 3) (linked m v (closed m.corner))
     (cond (eqb m.primitive 4) (linked m v (opened_at v))
     (cond (eqb m.primitive 9) (cornered m v)
-    (record { machine = m; event = e.Fault 17 })))))
+    (record { machine = m; event = e.Fault fault.NothingBegun })))))

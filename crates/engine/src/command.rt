@@ -3,7 +3,8 @@ ghost use Rattle.std.specs.Prelude.{◌≡◌};
 ghost use Rattle.engine.specs.Command.{clears, obeys};
 
 use crate::drawn::{is_drawn_format, is_drawn_primitive, is_drawn_size};
-use crate::handles::{SETTINGS, put_layout, put_layout_high, put_size, put_size_high, put_source};
+use crate::fault::Fault;
+use crate::handles::{Handles, Layout, LayoutHigh, Size};
 use crate::machine::{Event, Flags, Machine, Shape};
 use crate::vertex::{Vertex, place2f, place2ii};
 use words::Word;
@@ -33,14 +34,14 @@ fn clear_event(colour: u32, stencil: u32, tag: u32) -> Event
 }
 
 impl Machine {
-    // What a command does. Those that are not drawn yet give 13, by the word alone.
+    // What a command does. Those that are not drawn yet are refused by the word alone.
     #[tactic(auto, unfolding(crate::specs::Command::obeys))]
-    pub fn obey(mut self, handles: &mut [u32; SETTINGS], word: Word) -> Obeyed
+    pub fn obey(mut self, handles: &mut Handles, word: Word) -> Obeyed
         ensures { (result ≡ (obeys self handles.old word).obeyed) × (handles.new ≡ (obeys self handles.old word).handles) }
     {
         let current = self.context.placing.handle;
         let quiet = Then::Tell(Event::Quiet);
-        let undrawn = Then::Tell(Event::Fault(13));
+        let undrawn = Then::Tell(Event::Fault(Fault::NotDrawn));
         let then = match word {
             Word::Vertex2f { x, y } => Then::Place(place2f(self.context.placing, x, y)),
             Word::Vertex2ii { x, y, handle, cell } => Then::Place(place2ii(
@@ -52,7 +53,7 @@ impl Machine {
             )),
             Word::Display => Then::Tell(Event::Ended),
             Word::BitmapSource { addr } => {
-                put_source(handles, current, addr);
+                handles.put_source(current, addr);
                 quiet
             }
             Word::ClearColorRgb { red, green, blue } => {
@@ -85,7 +86,12 @@ impl Machine {
                 height,
             } => {
                 if is_drawn_format(format) {
-                    put_layout(handles, current, format, linestride, height);
+                    let layout = Layout {
+                        format,
+                        stride: linestride,
+                        height,
+                    };
+                    handles.put_layout(current, layout);
                     quiet
                 } else {
                     undrawn
@@ -99,7 +105,7 @@ impl Machine {
                 height,
             } => {
                 if is_drawn_size(filter, wrapx, wrapy) {
-                    put_size(handles, current, width, height);
+                    handles.put_size(current, Size { width, height });
                     quiet
                 } else {
                     undrawn
@@ -180,11 +186,11 @@ impl Machine {
             }
             Word::Call { dest } => {
                 if 4 <= self.depth {
-                    Then::Tell(Event::Fault(14))
+                    Then::Tell(Event::Fault(Fault::CallsTooDeep))
                 } else if dest % 4 == 0 {
                     Then::Tell(Event::Call(dest))
                 } else {
-                    Then::Tell(Event::Fault(16))
+                    Then::Tell(Event::Fault(Fault::NotAWord))
                 }
             }
             Word::Jump { dest } => {
@@ -192,7 +198,7 @@ impl Machine {
                     self.at = dest;
                     quiet
                 } else {
-                    Then::Tell(Event::Fault(16))
+                    Then::Tell(Event::Fault(Fault::NotAWord))
                 }
             }
             Word::Begin { prim } => {
@@ -220,7 +226,7 @@ impl Machine {
             Word::RestoreContext => Then::Tell(Event::Restore),
             Word::Return => {
                 if self.depth == 0 {
-                    Then::Tell(Event::Fault(15))
+                    Then::Tell(Event::Fault(Fault::NothingToReturnTo))
                 } else {
                     Then::Tell(Event::Return)
                 }
@@ -232,11 +238,15 @@ impl Machine {
                 quiet
             }
             Word::BitmapLayoutH { linestride, height } => {
-                put_layout_high(handles, current, linestride, height);
+                let high = LayoutHigh {
+                    stride: linestride,
+                    height,
+                };
+                handles.put_layout_high(current, high);
                 quiet
             }
             Word::BitmapSizeH { width, height } => {
-                put_size_high(handles, current, width, height);
+                handles.put_size_high(current, Size { width, height });
                 quiet
             }
             Word::PaletteSource { addr: _ } => undrawn,

@@ -1,24 +1,51 @@
-// The settings of the 32 bitmap handles, as numbers in a lent array: sixteen places for each handle. Main word and H word
-// keep their bits apart, so each has places of its own; what no word has set is 0.
-//
-//   0 BITMAP_SOURCE was given, 1 its address
-//   2 BITMAP_LAYOUT was given, 3 its format, 4 its line stride, 5 its height
-//   6 BITMAP_SIZE was given, 7 its width, 8 its height
-//   9 the high bits of the stride, 10 of the layout's height, 11 of the width, 12 of the height
-ghost use Rattle.std.specs.Prelude.{◌≡◌, ◌+◌, ◌*◌, ◌%◌, ◌≤◌, ◌<◌, ◌^◌};
+// The settings of the 32 bitmap handles, and which bitmap a vertex draws.
+ghost use Rattle.std.specs.Prelude.{◌≡◌, ◌+◌, ◌*◌, ◌%◌, ◌≤◌, ◌<◌, ◌^◌, IfSome};
 ghost use Rattle.engine.specs.Run.{most_memory};
-ghost use Rattle.engine.specs.Handles.{put, get, sourced, laid_out, sized, laid_out_high, sized_high, given, joined, handle_at, cover_of, judged, Narrow};
+ghost use Rattle.engine.specs.Handles.{all_unset, sourced, laid_out, sized, laid_out_high, sized_high, joined, handle_at, cover_of, aligned, judged, bitmap_at, Narrow};
 
 use crate::vertex::Vertex;
 use action::{Area, Bitmap, Format};
 use units::{LengthInPixels, Pixels};
 
-pub const SETTINGS: usize = 512;
+// What BITMAP_LAYOUT gave.
+#[derive(Clone, Copy)]
+pub struct Layout {
+    pub format: u32,
+    pub stride: u32,
+    pub height: u32,
+}
+
+// The high bits of the stride and of the layout's height, which BITMAP_LAYOUT_H gave.
+#[derive(Clone, Copy)]
+pub struct LayoutHigh {
+    pub stride: u32,
+    pub height: u32,
+}
+
+// A drawn width and height, or their high bits.
+#[derive(Clone, Copy)]
+pub struct Size {
+    pub width: u32,
+    pub height: u32,
+}
+
+// What the words of one handle gave. Main word and H word keep their bits apart, since they come in any order; the high bits are 0 until
+// their word gives them.
+#[derive(Clone, Copy)]
+pub struct Settings {
+    pub source: Option<u32>,
+    pub layout: Option<Layout>,
+    pub size: Option<Size>,
+    pub layout_high: LayoutHigh,
+    pub size_high: Size,
+}
+
+#[derive(Drop)]
+pub struct Handles(pub [Settings; 32]);
 
 // What the words of one handle come to, main words and H words together.
 #[derive(Clone, Copy)]
 pub struct Handle {
-    pub given: bool,
     pub source: u32,
     pub format: u32,
     pub stride: u64,
@@ -27,97 +54,105 @@ pub struct Handle {
     pub height: LengthInPixels,
 }
 
-fn put(handles: &mut [u32; SETTINGS], handle: u32, place: u32, value: u32)
-    requires { place < 16 }
-    ensures { handles.new ≡ put handles.old handle place value }
+// A handle's number has five bits.
+fn place(handle: u32) -> usize
+    ensures value { result ≡ handle % 32 }
+    ensures inside { result < 32 }
 {
-    let k = (16 * (handle % 32) + place) as usize;
-    handles[k] = value;
+    (handle % 32) as usize
 }
 
-fn get(handles: &[u32; SETTINGS], handle: u32, place: u32) -> u32
-    requires { place < 16 }
-    ensures { result ≡ get handles.now handle place }
-{
-    let k = (16 * (handle % 32) + place) as usize;
-    handles[k]
-}
-
-#[tactic(auto, unfolding(crate::specs::Handles::sourced))]
-pub fn put_source(handles: &mut [u32; SETTINGS], handle: u32, address: u32)
-    ensures { handles.new ≡ sourced handles.old handle address }
-{
-    put(handles, handle, 0, 1);
-    put(handles, handle, 1, address);
-}
-
-#[tactic(auto, unfolding(crate::specs::Handles::laid_out))]
-pub fn put_layout(handles: &mut [u32; SETTINGS], handle: u32, format: u32, stride: u32, height: u32)
-    ensures { handles.new ≡ laid_out handles.old handle format stride height }
-{
-    put(handles, handle, 2, 1);
-    put(handles, handle, 3, format);
-    put(handles, handle, 4, stride);
-    put(handles, handle, 5, height);
-}
-
-#[tactic(auto, unfolding(crate::specs::Handles::sized))]
-pub fn put_size(handles: &mut [u32; SETTINGS], handle: u32, width: u32, height: u32)
-    ensures { handles.new ≡ sized handles.old handle width height }
-{
-    put(handles, handle, 6, 1);
-    put(handles, handle, 7, width);
-    put(handles, handle, 8, height);
-}
-
-#[tactic(auto, unfolding(crate::specs::Handles::laid_out_high))]
-pub fn put_layout_high(handles: &mut [u32; SETTINGS], handle: u32, stride: u32, height: u32)
-    ensures { handles.new ≡ laid_out_high handles.old handle stride height }
-{
-    put(handles, handle, 9, stride);
-    put(handles, handle, 10, height);
-}
-
-#[tactic(auto, unfolding(crate::specs::Handles::sized_high))]
-pub fn put_size_high(handles: &mut [u32; SETTINGS], handle: u32, width: u32, height: u32)
-    ensures { handles.new ≡ sized_high handles.old handle width height }
-{
-    put(handles, handle, 11, width);
-    put(handles, handle, 12, height);
-}
-
-// A number whose low bits are in one place and whose high bits, which count so many times as much, in another.
-#[tactic(auto, unfolding(crate::specs::Handles::joined))]
-fn joined(handles: &[u32; SETTINGS], handle: u32, low: u32, high: u32, power: u32) -> u64
-    requires { (low < 16) × ((high < 16) × (power ≤ 1024)) }
-    ensures value { result ≡ joined handles.now handle low high power }
+// A number's low bits, and its high bits, which count so many times as much.
+fn joined(low: u32, high: u32, power: u32) -> u64
+    requires { power ≤ 1024 }
+    ensures value { result ≡ joined low high power }
     ensures upper_bound { result < 2 ^ 43 }
 {
-    let below = get(handles, handle, low);
-    let above = get(handles, handle, high);
-    below as u64 + power as u64 * above as u64
+    u64::from(low) + u64::from(power) * u64::from(high)
 }
 
-#[tactic(auto, unfolding(crate::specs::Handles::given))]
-fn is_given(handles: &[u32; SETTINGS], handle: u32) -> bool
-    ensures { result ≡ given handles.now handle }
-{
-    (get(handles, handle, 0) == 1) & (get(handles, handle, 2) == 1) & (get(handles, handle, 6) == 1)
-}
+impl Handles {
+    // All handles unset, as a run starts.
+    pub fn unset() -> Handles
+        ensures { result ≡ all_unset }
+    {
+        Handles([Settings {
+            source: None,
+            layout: None,
+            size: None,
+            layout_high: LayoutHigh {
+                stride: 0,
+                height: 0,
+            },
+            size_high: Size {
+                width: 0,
+                height: 0,
+            },
+        }; 32])
+    }
 
-#[tactic(auto, unfolding(crate::specs::Handles::handle_at))]
-pub fn handle_at(handles: &[u32; SETTINGS], handle: u32) -> Handle
-    ensures value { result ≡ handle_at handles.now handle }
-    ensures narrow { Narrow result }
-{
-    Handle {
-        given: is_given(handles, handle),
-        source: get(handles, handle, 1),
-        format: get(handles, handle, 3),
-        stride: joined(handles, handle, 4, 9, 1024),
-        rows: joined(handles, handle, 5, 10, 512),
-        width: LengthInPixels(joined(handles, handle, 7, 11, 512)),
-        height: LengthInPixels(joined(handles, handle, 8, 12, 512)),
+    #[tactic(auto, unfolding(crate::specs::Handles::sourced))]
+    pub fn put_source(&mut self, handle: u32, address: u32)
+        ensures { self.new ≡ sourced self.old handle address }
+    {
+        self.0[place(handle)].source = Some(address);
+    }
+
+    #[tactic(auto, unfolding(crate::specs::Handles::laid_out))]
+    pub fn put_layout(&mut self, handle: u32, layout: Layout)
+        ensures { self.new ≡ laid_out self.old handle layout }
+    {
+        self.0[place(handle)].layout = Some(layout);
+    }
+
+    #[tactic(auto, unfolding(crate::specs::Handles::sized))]
+    pub fn put_size(&mut self, handle: u32, size: Size)
+        ensures { self.new ≡ sized self.old handle size }
+    {
+        self.0[place(handle)].size = Some(size);
+    }
+
+    #[tactic(auto, unfolding(crate::specs::Handles::laid_out_high))]
+    pub fn put_layout_high(&mut self, handle: u32, high: LayoutHigh)
+        ensures { self.new ≡ laid_out_high self.old handle high }
+    {
+        self.0[place(handle)].layout_high = high;
+    }
+
+    #[tactic(auto, unfolding(crate::specs::Handles::sized_high))]
+    pub fn put_size_high(&mut self, handle: u32, high: Size)
+        ensures { self.new ≡ sized_high self.old handle high }
+    {
+        self.0[place(handle)].size_high = high;
+    }
+
+    // The handle, if its three main words were given.
+    #[tactic(auto, unfolding(crate::specs::Handles::handle_at))]
+    fn at(&self, handle: u32) -> Option<Handle>
+        ensures value { result ≡ handle_at self.now handle }
+        ensures narrow { IfSome result Narrow }
+    {
+        let settings = self.0[place(handle)];
+        let source = settings.source?;
+        let layout = settings.layout?;
+        let size = settings.size?;
+        Some(Handle {
+            source,
+            format: layout.format,
+            stride: joined(layout.stride, settings.layout_high.stride, 1024),
+            rows: joined(layout.height, settings.layout_high.height, 512),
+            width: LengthInPixels(joined(size.width, settings.size_high.width, 512)),
+            height: LengthInPixels(joined(size.height, settings.size_high.height, 512)),
+        })
+    }
+
+    // The bitmap that the vertex draws, or none for number 18.
+    #[tactic(auto, unfolding(crate::specs::Handles::bitmap_at))]
+    pub fn bitmap(&self, v: Vertex, memory: u32) -> Option<Bitmap>
+        requires { memory ≤ most_memory }
+        ensures { result ≡ bitmap_at self.now v memory }
+    {
+        self.at(v.handle)?.judge(v, memory)
     }
 }
 
@@ -127,77 +162,48 @@ pub fn cover(left: Pixels, top: Pixels, width: LengthInPixels, height: LengthInP
     requires { ((left.0 < 2 ^ 63) × (top.0 < 2 ^ 63)) × ((width.0 < 2 ^ 63) × (height.0 < 2 ^ 63)) }
     ensures { result ≡ cover_of left top width height }
 {
-    let right = left.on(width);
-    let bottom = top.on(height);
     Area {
-        left: left,
-        top: top,
-        right: right,
-        bottom: bottom,
+        left,
+        top,
+        right: left.on(width),
+        bottom: top.on(height),
     }
 }
 
-#[derive(Clone, Copy)]
-pub enum Judged {
-    Drawable(Bitmap),
-    Undrawable,
-}
+impl Handle {
+    // L8 is format 3; each other format that is drawn has two bytes.
+    fn is_aligned(self) -> bool
+        ensures { result ≡ aligned self }
+    {
+        self.format == 3 || (self.source % 2 == 0 && self.stride % 2 == 0)
+    }
 
-// Number 18, or the bitmap that the vertex draws. A stride, a height or a cell longer than RAM_G is refused before it is
-// multiplied, so that no product is too large for its type.
-#[tactic(auto, unfolding(crate::specs::Handles::bitmap_of))]
-pub fn judge(h: Handle, v: Vertex, memory: u32) -> Judged
-    requires { Narrow h × (memory ≤ most_memory) }
-    ensures { result ≡ judged h v memory }
-{
-    let room = memory as u64;
-    if !h.given {
-        return Judged::Undrawable;
-    }
-    if h.stride == 0 {
-        return Judged::Undrawable;
-    }
-    if h.rows == 0 {
-        return Judged::Undrawable;
-    }
-    if h.width.0 == 0 {
-        return Judged::Undrawable;
-    }
-    if h.height.0 == 0 {
-        return Judged::Undrawable;
-    }
-    if room < h.stride {
-        return Judged::Undrawable;
-    }
-    if room < h.rows {
-        return Judged::Undrawable;
-    }
-    let size = h.stride * h.rows;
-    if room < size {
-        return Judged::Undrawable;
-    }
-    let start = h.source as u64 + v.cell as u64 * size;
-    if room < start + size {
-        return Judged::Undrawable;
-    }
-    if h.format != 3 {
-        if h.source % 2 != 0 {
-            return Judged::Undrawable;
+    // The bitmap that the vertex draws, or none for number 18.
+    #[tactic(auto, unfolding(crate::specs::Handles::bitmap_of))]
+    fn judge(self, v: Vertex, memory: u32) -> Option<Bitmap>
+        requires { Narrow self × (memory ≤ most_memory) }
+        ensures { result ≡ judged self v memory }
+    {
+        if self.stride == 0 || self.rows == 0 || self.width.0 == 0 || self.height.0 == 0 {
+            return None;
         }
-        if h.stride % 2 != 0 {
-            return Judged::Undrawable;
+        let size = self.stride.checked_mul(self.rows)?;
+        let start = u64::from(v.cell)
+            .checked_mul(size)?
+            .checked_add(u64::from(self.source))?;
+        let end = start.checked_add(size)?;
+        if u64::from(memory) < end {
+            return None;
         }
+        if !self.is_aligned() {
+            return None;
+        }
+        Some(Bitmap {
+            area: cover(v.x.floor(), v.y.floor(), self.width, self.height),
+            start: start as u32,
+            format: Format::from(self.format),
+            stride: self.stride as u32,
+            height: self.rows as u32,
+        })
     }
-    let x = v.x;
-    let y = v.y;
-    let width = h.width;
-    let height = h.height;
-    let area = cover(x.floor(), y.floor(), width, height);
-    Judged::Drawable(Bitmap {
-        area: area,
-        start: start as u32,
-        format: Format::from(h.format),
-        stride: h.stride as u32,
-        height: h.rows as u32,
-    })
 }

@@ -7,6 +7,7 @@
 mod command;
 mod context;
 mod drawn;
+mod fault;
 mod handles;
 mod kept;
 mod machine;
@@ -15,7 +16,8 @@ mod running;
 mod screen;
 mod vertex;
 
-pub use handles::SETTINGS;
+pub use fault::Fault;
+pub use handles::Handles;
 pub use kept::Engine;
 pub use run::{Advanced, Find, Stop, advance};
 pub use running::{Ending, Run};

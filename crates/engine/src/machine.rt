@@ -6,7 +6,8 @@ ghost use Rattle.engine.specs.Machine.{started, steps};
 
 use crate::command::Then;
 use crate::context::Context;
-use crate::handles::SETTINGS;
+use crate::fault::Fault;
+use crate::handles::Handles;
 use crate::vertex::Corner;
 use action::{Bitmap, Point, Rectangle, Segment};
 use units::Sixteenths;
@@ -43,7 +44,7 @@ pub enum Shape {
 }
 
 // What a word came to: nothing to tell, a context to save or to restore, a call to take or to return from, an action, the
-// list's end, or a number of document 01's table.
+// list's end, or a fault.
 #[derive(Clone, Copy)]
 pub enum Event {
     Quiet,
@@ -53,7 +54,7 @@ pub enum Event {
     Return,
     Draw(Shape),
     Ended,
-    Fault(u32),
+    Fault(Fault),
 }
 
 #[derive(Clone, Copy)]
@@ -86,7 +87,7 @@ impl Machine {
 
     // A word read and obeyed.
     #[tactic(auto, unfolding(crate::specs::Machine::steps))]
-    pub fn step(self, handles: &mut [u32; SETTINGS], memory: u32, bits: u32) -> Stepped
+    pub fn step(self, handles: &mut Handles, memory: u32, bits: u32) -> Stepped
         requires { memory ≤ most_memory }
         ensures { (result ≡ (steps self handles.old memory bits).stepped) × (handles.new ≡ (steps self handles.old memory bits).handles) }
     {
@@ -105,11 +106,11 @@ impl Machine {
             }
             Read::NoCommand => Stepped {
                 machine: self,
-                event: Event::Fault(11),
+                event: Event::Fault(Fault::NoCommand),
             },
             Read::NoMeaning => Stepped {
                 machine: self,
-                event: Event::Fault(12),
+                event: Event::Fault(Fault::NoMeaning),
             },
         }
     }

@@ -4,7 +4,8 @@ ghost use Rattle.engine.specs.Advance.{is_kept, found, Advances};
 ghost use Rattle.engine.specs.Run.{WithinLimits, clear_of, drawing_of, action_of, stop_at};
 
 use crate::context::Context;
-use crate::handles::SETTINGS;
+use crate::fault::Fault;
+use crate::handles::Handles;
 use crate::kept::{Engine, Kept};
 use crate::machine::{Event, Flags, Machine, Shape};
 use action::{Action, Clear, Drawing};
@@ -124,7 +125,7 @@ fn is_kept(count: usize) -> bool
 // together for that.
 pub fn advance(
     from: Engine,
-    handles: &mut [u32; SETTINGS],
+    handles: &mut Handles,
     list: &[u8],
     memory: u32,
     allowed: u32,
@@ -139,7 +140,7 @@ pub fn advance(
     while 0 < left {
         let at = now.at;
         if list.len() <= wide(at) {
-            return over(now, kept, left, 10, at);
+            return over(now, kept, left, Fault::PastTheEnd.number(), at);
         }
         left = left - 1;
         let bits = runs::word_at(list, at);
@@ -201,11 +202,11 @@ pub fn advance(
             Event::Ended => {
                 return over(now, kept, left, 0, 0);
             }
-            Event::Fault(number) => {
-                return over(now, kept, left, number, at);
+            Event::Fault(fault) => {
+                return over(now, kept, left, fault.number(), at);
             }
         }
     }
     let at = now.at;
-    over(now, kept, left, 19, at)
+    over(now, kept, left, Fault::LimitReached.number(), at)
 }

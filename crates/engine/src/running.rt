@@ -4,7 +4,7 @@ ghost use Rattle.engine.specs.Run.{ending_of};
 ghost use Rattle.engine.specs.Running.{actions_in, actions_left, run_in};
 ghost use Rattle.std.specs.Iterator.{YieldsFirst, item_count};
 
-use crate::handles::SETTINGS;
+use crate::handles::Handles;
 use crate::kept::Engine;
 use crate::run::{Find, Stop, advance};
 use crate::screen::Screen;
@@ -18,11 +18,11 @@ pub struct Ending {
 }
 
 // A run that is asked for one drawing action after the other. `left` is how many words are still allowed.
-#[derive(Clone, Copy)]
+#[derive(Drop)]
 pub struct Run<'a> {
     pub screen: Screen<'a>,
     pub engine: Engine,
-    pub handles: [u32; SETTINGS],
+    pub handles: Handles,
     pub left: u32,
 }
 
@@ -34,7 +34,7 @@ impl<'a> Screen<'a> {
         Run {
             screen: *self,
             engine: Engine::start(),
-            handles: [0; SETTINGS],
+            handles: Handles::unset(),
             left: self.limit,
         }
     }
@@ -43,7 +43,7 @@ impl<'a> Screen<'a> {
     pub fn finish(&self) -> Ending
         ensures { result ≡ ending_of (run_in self.now) }
     {
-        let mut handles = [0; SETTINGS];
+        let mut handles = Handles::unset();
         let memory = self.memory.len() as u32;
         let advanced = advance(
             Engine::start(),

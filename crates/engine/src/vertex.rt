@@ -1,11 +1,12 @@
 // A vertex: where its word places it, and what it draws with the primitive that is begun.
 ghost use Rattle.std.specs.Prelude.{◌≡◌, ◌≤◌};
-ghost use Rattle.engine.specs.Handles.{judged, Narrow};
+ghost use Rattle.engine.specs.Handles.{bitmap_at};
 ghost use Rattle.engine.specs.Run.{most_memory};
 ghost use Rattle.engine.specs.Vertex.{unit_of, placed2f, placed2ii, opened_at, pointed, rectangled, bitmapped, segment_from, segmented, vertexed};
 
 use crate::context::Placing;
-use crate::handles::{Handle, Judged, SETTINGS, handle_at, judge};
+use crate::fault::Fault;
+use crate::handles::Handles;
 use crate::machine::{Event, Machine, Shape, Stepped};
 use action::{End, Point, Rectangle, Segment};
 use units::{LengthInSixteenths, Pixels, Sixteenths};
@@ -130,29 +131,29 @@ fn segment_event(c: Corner, v: Vertex, width: u32, primitive: u32) -> Event
     if drawn.is_short() {
         return Event::Draw(Shape::Segment(drawn));
     }
-    Event::Fault(20)
+    Event::Fault(Fault::EndTooFar)
 }
 
-fn bitmap_event(h: Handle, v: Vertex, memory: u32) -> Event
-    requires { Narrow h × (memory ≤ most_memory) }
-    ensures { result ≡ bitmapped (judged h v memory) }
+fn bitmap_event(handles: &Handles, v: Vertex, memory: u32) -> Event
+    requires { memory ≤ most_memory }
+    ensures { result ≡ bitmapped (bitmap_at handles.now v memory) }
 {
-    match judge(h, v, memory) {
-        Judged::Drawable(bitmap) => Event::Draw(Shape::Bitmap(bitmap)),
-        Judged::Undrawable => Event::Fault(18),
+    match handles.bitmap(v, memory) {
+        Some(bitmap) => Event::Draw(Shape::Bitmap(bitmap)),
+        None => Event::Fault(Fault::Undrawable),
     }
 }
 
 impl Machine {
     // What a vertex draws. Its handle and cell are looked at only while BITMAPS is begun.
     #[tactic(auto, unfolding(crate::specs::Vertex::vertexed))]
-    pub fn vertex(mut self, handles: &[u32; SETTINGS], memory: u32, v: Vertex) -> Stepped
+    pub fn vertex(mut self, handles: &Handles, memory: u32, v: Vertex) -> Stepped
         requires { memory ≤ most_memory }
         ensures { result ≡ vertexed self handles.now memory v }
     {
         let primitive = self.primitive;
         let event = match primitive {
-            1 => bitmap_event(handle_at(handles, v.handle), v, memory),
+            1 => bitmap_event(handles, v, memory),
             2 => point_event(v, self.context.placing.pointsize),
             3 => {
                 let corner = self.corner;
@@ -186,7 +187,7 @@ impl Machine {
                     rectangle_event(corner, v, self.context.placing.linewidth)
                 }
             }
-            _ => Event::Fault(17),
+            _ => Event::Fault(Fault::NothingBegun),
         };
         Stepped {
             machine: self,

@@ -1,6 +1,5 @@
 -- Each of the 48 commands leaves a valid machine and valid handles, and draws only what is orderly. Assumes nothing.
 use mathlib.Core.Path.{refl}
-use mathlib.Core.List.{List}
 use mathlib.Core.Logic.{inl, inr}
 use Prim.Native.Nat.{ℕ, ◌%◌, ◌<◌}
 use native.Mathlib.Omega.{arith}
@@ -14,6 +13,7 @@ use Rattle.words.specs.Table.{rows}
 use Rattle.engine.specs.declared.context.Brush.{Brush}
 use Rattle.engine.specs.declared.context.Context.{Context}
 use Rattle.engine.specs.declared.context.Placing.{Placing}
+use Rattle.engine.specs.declared.handles.Handles.{Handles}
 use Rattle.engine.specs.declared.machine.Event.{Event}
 use Rattle.engine.specs.declared.machine.Event.TheVariants as e
 use Rattle.engine.specs.declared.machine.Machine.{Machine}
@@ -38,7 +38,7 @@ ValidEvent m (e.Call to) = (m.depth < 4) × Aligned to
 ValidEvent m e.Return = Unit {0}
 ValidEvent m (e.Draw shape) = (c : Context) → Orderly (drawing_of c shape)
 ValidEvent m e.Ended = Unit {0}
-ValidEvent m (e.Fault number) = Unit {0}
+ValidEvent m (e.Fault fault) = Unit {0}
 
 abbrev pub ValidThen : Machine → Then → Type 0
 ValidThen m (t.Tell event) = ValidEvent m event
@@ -55,11 +55,11 @@ infixr 20 ◌and◌
 abbrev ◌and◌ : {A B : Type 0} → A → B → A × B
 a and b = (a, b)
 
-module _ (m : Machine) (hs : List ℕ) (v : ValidMachine m) (k : ValidHandles hs) where
+module _ (m : Machine) (hs : Handles) (v : ValidMachine m) (k : ValidHandles hs) where
   untouched : {then : Then} → ValidThen m then → ValidObeys (record { obeyed = record { machine = m; then = then }; handles = hs })
   untouched h = record { machine = v; handles = k; then = h }
 
-  handles : {changed : List ℕ} → ValidHandles changed → ValidObeys (quietly m changed)
+  handles : {changed : Handles} → ValidHandles changed → ValidObeys (quietly m changed)
   handles h = record { machine = v; handles = h; then = tt }
 
   quiet : {changed : Machine} → ValidMachine changed → ValidObeys (quietly changed hs)
@@ -81,12 +81,12 @@ module _ (m : Machine) (hs : List ℕ) (v : ValidMachine m) (k : ValidHandles hs
   layout : (format stride height : ℕ) → ValidObeys (obeys m hs (w.BitmapLayout format stride height))
   unfolding obeys
   layout format stride height =
-      by-test ValidObeys (drawn_format format) (λ d. handles (laid-valid _ k format stride height d)) (λ d. untouched tt)
+      by-test ValidObeys (drawn_format format) (λ d. handles (laid-valid _ k _ d)) (λ d. untouched tt)
 
   size : (filter wrapx wrapy width height : ℕ) → ValidObeys (obeys m hs (w.BitmapSize filter wrapx wrapy width height))
   unfolding obeys
   size filter wrapx wrapy width height =
-      by-test ValidObeys (drawn_size filter wrapx wrapy) (λ d. handles (sized-valid _ k width height)) (λ d. untouched tt)
+      by-test ValidObeys (drawn_size filter wrapx wrapy) (λ d. handles (sized-valid _ k _)) (λ d. untouched tt)
 
   call : (dest : ℕ) → ValidObeys (obeys m hs (w.Call dest))
   unfolding obeys
@@ -153,8 +153,8 @@ module _ (m : Machine) (hs : List ℕ) (v : ValidMachine m) (k : ValidHandles hs
       (λ m _. untouched tt) and
       (λ colour _ stencil _ tag _. untouched (λ c. tt)) and
       (λ frac h. placing (search (arith, leb-true))) and
-      (λ stride _ height _. handles (laid-high-valid _ k stride height)) and
-      (λ width _ height _. handles (sized-high-valid _ k width height)) and
+      (λ stride _ height _. handles (laid-high-valid _ k _)) and
+      (λ width _ height _. handles (sized-high-valid _ k _)) and
       (λ addr _. untouched tt) and
       (λ x h. placing (search (arith, translation-in))) and
       (λ y h. placing (search (arith, translation-in))) and

@@ -37,6 +37,6 @@ format-named n e =
 pub numbers-meant : NumbersMeant
 numbers-meant = record {
   brushes = brush-named;
-  formats = λ hs v. record { format = λ handle. format-named _ (v.format handle) };
+  formats = λ hs v. record { format = λ handle layout e. format-named _ (v.format handle layout e) };
   vertices = vertices-meant;
 }

@@ -1,56 +1,54 @@
--- The handles' settings stay valid: a format is put only where formats are. Assumes nothing.
-use mathlib.Core.Path.{◌≡◌, refl, sym, ◌∙◌, subst}
+-- The handles' settings stay valid: a layout is put only where its format is drawn. Assumes nothing.
+use mathlib.Core.Path.{◌≡◌, ap, sym, ◌∙◌}
 use mathlib.Core.Bool.{true}
-use mathlib.Core.List.{List}
-use Prim.Native.Nat.{ℕ, ◌<◌}
+use Prim.Native.Nat.{ℕ, ◌%◌}
 use native.Mathlib.Omega.{arith}
-use lib.ListN.{length-set, length-replicate, replicate, get_or-replicate}
+use lib.ListN.{length-set, length-replicate, get_or-replicate}
+use Rattle.std.specs.Prelude.{Some}
+use Rattle.std.proofs.lemmas.Option.{none-some, same_Some}
+use Rattle.engine.specs.declared.handles.Handles.{Handles}
+use Rattle.engine.specs.declared.handles.Layout.{Layout}
+use Rattle.engine.specs.declared.handles.LayoutHigh.{LayoutHigh}
+use Rattle.engine.specs.declared.handles.Settings.{Settings}
+use Rattle.engine.specs.declared.handles.Size.{Size}
 use Rattle.engine.specs.Drawn.{drawn_format}
-use Rattle.engine.specs.Handles.{settings, place, put, handle_at, sourced, laid_out, sized, laid_out_high, sized_high}
+use Rattle.engine.specs.Handles.{unset, all_unset, put, sourced, laid_out, sized, laid_out_high, sized_high}
 use Rattle.invariant.specs.State.{ValidHandles}
 use Rattle.invariant.proofs.Lists.{set_at}
 
-abbrev Drawn : ℕ → Type 0
-Drawn format = drawn_format format ≡ true
+abbrev Drawn : Settings → Type 0
+Drawn s = (layout : Layout) → s.layout ≡ Some layout → drawn_format layout.format ≡ true
 
-module _ {hs : List ℕ} (h k value : ℕ) (v : ValidHandles hs) where
-  put-valid : k < 16 → (k ≡ 3 → Drawn value) → ValidHandles (put hs h k value)
-  unfolding handle_at
-  put-valid l p = record {
-    places = length-set hs (place h k) value ∙ v.places;
-    format = λ i. set_at Drawn hs (place h k) (place i 3) value 0 (v.format i) (λ e. p (omega arith));
+module _ {hs : Handles} (h : ℕ) (v : ValidHandles hs) where
+  put-valid : (s : Settings) → Drawn s → ValidHandles (put hs h s)
+  put-valid s d = record {
+    places = length-set hs.0 (h % 32) s ∙ v.places;
+    format = λ i. set_at Drawn hs.0 (h % 32) (i % 32) s unset (v.format i) (λ e. d);
   }
 
-  -- any other setting
-  put_other : (k < 16) × (k ≡ 3 → ⊥) → ValidHandles (put hs h k value)
-  put_other o = put-valid o.0 (λ e. absurd (o.1 e))
-
-module _ {hs : List ℕ} (h : ℕ) (v : ValidHandles hs) where
   pub sourced-valid : (address : ℕ) → ValidHandles (sourced hs h address)
   unfolding sourced
-  sourced-valid address = put_other h 1 address (put_other h 0 1 v (omega arith)) (omega arith)
+  sourced-valid address = put-valid _ (v.format h)
 
-  pub laid-valid : (format stride height : ℕ) → Drawn format → ValidHandles (laid_out hs h format stride height)
+  pub laid-valid : (layout : Layout) → drawn_format layout.format ≡ true → ValidHandles (laid_out hs h layout)
   unfolding laid_out
-  laid-valid format stride height d =
-      put_other h 5 height (put_other h 4 stride (put-valid h 3 format (put_other h 2 1 v (omega arith)) (omega arith) (λ e. d)) (omega arith)) (omega arith)
+  laid-valid layout d = put-valid _ (λ l e. rw (← same_Some layout l e) d)
 
-  pub sized-valid : (width height : ℕ) → ValidHandles (sized hs h width height)
+  pub sized-valid : (size : Size) → ValidHandles (sized hs h size)
   unfolding sized
-  sized-valid width height = put_other h 8 height (put_other h 7 width (put_other h 6 1 v (omega arith)) (omega arith)) (omega arith)
+  sized-valid size = put-valid _ (v.format h)
 
-  pub laid-high-valid : (stride height : ℕ) → ValidHandles (laid_out_high hs h stride height)
+  pub laid-high-valid : (high : LayoutHigh) → ValidHandles (laid_out_high hs h high)
   unfolding laid_out_high
-  laid-high-valid stride height = put_other h 10 height (put_other h 9 stride v (omega arith)) (omega arith)
+  laid-high-valid high = put-valid _ (v.format h)
 
-  pub sized-high-valid : (width height : ℕ) → ValidHandles (sized_high hs h width height)
+  pub sized-high-valid : (high : Size) → ValidHandles (sized_high hs h high)
   unfolding sized_high
-  sized-high-valid width height = put_other h 12 height (put_other h 11 width v (omega arith)) (omega arith)
+  sized-high-valid high = put-valid _ (v.format h)
 
 -- 'Every run starts with all handles unset.'
-pub unset-valid : ValidHandles (replicate settings 0)
-unfolding handle_at drawn_format
+pub unset-valid : ValidHandles all_unset
 unset-valid = record {
-  places = length-replicate {A = ℕ} settings 0;
-  format = λ i. subst Drawn (sym (get_or-replicate settings (place i 3) 0 0 (omega arith))) refl;
+  places = length-replicate {A = Settings} 32 unset;
+  format = λ i layout e. absurd (none-some layout (sym (ap (λ (s : Settings). s.layout) (get_or-replicate 32 (i % 32) unset unset (omega arith))) ∙ e));
 }

@@ -5,12 +5,13 @@ use Prim.Native.Nat.{ℕ, ◌+◌, ◌-◌, ◌%◌}
 use native.Mathlib.Omega.{arith}
 use lib.Dec.{eqb, ltb}
 use Rattle.truth.proofs.Bools.{by-test}
+use Rattle.std.specs.Prelude.{Option, Some, None}
+use Rattle.action.specs.declared.shape.Bitmap.{Bitmap}
 use Rattle.action.specs.declared.shape.Segment.{Segment}
 use Rattle.action.specs.Ends.{short_ends}
 use Rattle.action.proofs.Corners.{corners-in-order}
 use Rattle.engine.specs.declared.context.Context.{Context}
-use Rattle.engine.specs.declared.handles.Judged.{Judged}
-use Rattle.engine.specs.declared.handles.Judged.TheVariants as j
+use Rattle.engine.specs.declared.handles.Handles.{Handles}
 use Rattle.engine.specs.declared.vertex.Vertex.{Vertex}
 use Rattle.engine.specs.declared.kept.Engine.{Engine}
 use Rattle.engine.specs.declared.kept.Kept.{Kept}
@@ -23,7 +24,7 @@ use Rattle.engine.specs.declared.command.Then.{Then}
 use Rattle.engine.specs.declared.command.Then.TheVariants as t
 use Rattle.engine.specs.Command.{obeys}
 use Rattle.engine.specs.Context.{starting}
-use Rattle.engine.specs.Handles.{handle_at, judged}
+use Rattle.engine.specs.Handles.{bitmap_at}
 use Rattle.engine.specs.Kept.{kept_with, newest, dropped, pushed, popped, called, returned}
 use Rattle.engine.specs.Machine.{Steps, follows, steps_by, steps}
 use Rattle.engine.specs.Run.{drawing_of, State, place_of, step_of, event_of, settled, next_of}
@@ -46,10 +47,10 @@ segment-orderly : (m : Machine) (d : Segment) → ValidEvent m (segmented d)
 unfolding segmented drawing_of
 segment-orderly m d = by-test (ValidEvent m) (short_ends d) (λ short c. short) (λ long. tt)
 
-bitmap-orderly : (m : Machine) (answer : Judged) → ValidEvent m (bitmapped answer)
+bitmap-orderly : (m : Machine) (answer : Option Bitmap) → ValidEvent m (bitmapped answer)
 unfolding drawing_of
-bitmap-orderly m (j.Drawable b) = λ c. tt
-bitmap-orderly m j.Undrawable = tt
+bitmap-orderly m (Some b) = λ c. tt
+bitmap-orderly m None = tt
 
 -- it changes nothing but the open corner or end
 module _ (m : Machine) (valid : ValidMachine m) where
@@ -64,10 +65,10 @@ module _ (m : Machine) (valid : ValidMachine m) where
       by-test ValidStepped (eqb m.corner.waits 0) (λ w. record { machine = with-corner valid (opened_at v); event = tt })
       (λ w. record { machine = with-corner valid (closed m.corner); event = λ c. corners-in-order m.corner.x m.corner.y v.x v.y _ })
 
-  vertex-valid : (hs : List ℕ) (memory : ℕ) (v : Vertex) → ValidStepped (vertexed m hs memory v)
+  vertex-valid : (hs : Handles) (memory : ℕ) (v : Vertex) → ValidStepped (vertexed m hs memory v)
   unfolding vertexed drawing_of
   vertex-valid hs memory v =
-      by-test ValidStepped (eqb m.primitive 1) (λ p. record { machine = valid; event = bitmap-orderly m (judged (handle_at hs v.handle) v memory) })
+      by-test ValidStepped (eqb m.primitive 1) (λ p. record { machine = valid; event = bitmap-orderly m (bitmap_at hs v memory) })
       (λ p. by-test ValidStepped (eqb m.primitive 2) (λ p. record { machine = valid; event = λ c. tt })
       (λ p. by-test ValidStepped (eqb m.primitive 3) (λ p. end-valid v (closed m.corner))
       (λ p. by-test ValidStepped (eqb m.primitive 4) (λ p. end-valid v (opened_at v))
@@ -79,11 +80,11 @@ pub record ValidSteps (s : Steps) : Type 0 where
   pub stepped : ValidStepped s.stepped
   pub handles : ValidHandles s.handles
 
-follows-valid : (m : Machine) (hs : List ℕ) (memory : ℕ) (then : Then) → ValidMachine m → ValidHandles hs → ValidThen m then → ValidSteps (follows m hs memory then)
+follows-valid : (m : Machine) (hs : Handles) (memory : ℕ) (then : Then) → ValidMachine m → ValidHandles hs → ValidThen m then → ValidSteps (follows m hs memory then)
 follows-valid m hs memory (t.Tell event) v h f = record { stepped = record { machine = v; event = f }; handles = h }
 follows-valid m hs memory (t.Place vertex) v h f = record { stepped = vertex-valid m v hs memory vertex; handles = h }
 
-steps-valid : (m : Machine) (hs : List ℕ) (memory bits : ℕ) → ValidMachine m → ValidHandles hs → ValidSteps (steps m hs memory bits)
+steps-valid : (m : Machine) (hs : Handles) (memory bits : ℕ) → ValidMachine m → ValidHandles hs → ValidSteps (steps m hs memory bits)
 unfolding steps
 steps-valid m hs memory bits v h =
     read-cases
@@ -128,7 +129,7 @@ settled-valid (e.Call to) x o v = record { now = with_call x v.now to o.0 o.1; k
 settled-valid e.Return x o v = record { now = with-return x v.now; kept = v.kept }
 settled-valid (e.Draw shape) x o v = v
 settled-valid e.Ended x o v = v
-settled-valid (e.Fault number) x o v = v
+settled-valid (e.Fault fault) x o v = v
 
 pub next-valid : (list : List ℕ) (memory : ℕ) (x : State) → Valid x → Valid (next_of list memory x)
 next-valid list memory x v =

@@ -1,7 +1,7 @@
 -- WHAT A RUN'S STATE KEEPS: one invariant, of the state before the first word and after each word. Every number of it is one that a word can give: by
 -- row 12 of document 01's 'Number table' where that speaks of it, else by the width of its field in the guide. The definitions of `engine` lean on
 -- it: they make a test, an action, a factor or a format of a kept number, take frac from 4, and fetch words at multiples of 4.
-use Rattle.std.specs.Prelude.{◌≡◌, true, List, ◌⊎◌, ℕ, zero, suc, ◌%◌, ◌≤◌, ◌<◌, length}
+use Rattle.std.specs.Prelude.{◌≡◌, true, Some, List, ◌⊎◌, ℕ, zero, suc, ◌%◌, ◌≤◌, ◌<◌, length}
 use Rattle.units.specs.Units.{meant_translation}
 use Rattle.action.specs.declared.ink.ClearValues.{ClearValues}
 use Rattle.action.specs.declared.ink.Masks.{Masks}
@@ -9,9 +9,11 @@ use Rattle.words.specs.Fields.{InBits}
 use Rattle.engine.specs.declared.context.Brush.{Brush}
 use Rattle.engine.specs.declared.context.Context.{Context}
 use Rattle.engine.specs.declared.context.Placing.{Placing}
+use Rattle.engine.specs.declared.handles.Handles.{Handles}
+use Rattle.engine.specs.declared.handles.Layout.{Layout}
 use Rattle.engine.specs.declared.machine.Machine.{Machine}
 use Rattle.engine.specs.Drawn.{drawn_format, drawn_primitive}
-use Rattle.engine.specs.Handles.{settings, handle_at}
+use Rattle.engine.specs.Handles.{settings_at}
 use Rattle.engine.specs.Run.{State, next_of, at_start, run_of}
 use Rattle.engine.specs.Saves.{Whole}
 use Rattle.invariant.specs.Each.{Each}
@@ -82,10 +84,10 @@ pub record ValidMachine (m : Machine) : Type 0 where
   pub depth : m.depth ≤ 4
   pub primitive : (m.primitive ≡ 0) ⊎ (drawn_primitive m.primitive ≡ true)
 
--- THE HANDLES. Row 13 refuses a BITMAP_LAYOUT with a format that is not drawn; where none was given the format is 0, which is drawn
-pub record ValidHandles (hs : List ℕ) : Type 0 where
-  pub places : length hs ≡ settings
-  pub format : (handle : ℕ) → drawn_format (handle_at hs handle).format ≡ true
+-- THE HANDLES. Row 13 refuses a BITMAP_LAYOUT with a format that is not drawn
+pub record ValidHandles (hs : Handles) : Type 0 where
+  pub places : length hs.0 ≡ 32
+  pub format : (handle : ℕ) (layout : Layout) → (settings_at hs handle).layout ≡ Some layout → drawn_format layout.format ≡ true
 
 -- THE STATE. 'Four contexts are kept': what a restore loads is valid too
 pub record Valid (x : State) : Type 0 where

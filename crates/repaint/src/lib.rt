@@ -23,7 +23,7 @@ use compare::{Ahead, BESIDE, LATER};
 use engine::{Run, Screen};
 
 // One of the two lists in a walk: the action that its run came to, or none at its end.
-#[derive(Clone, Copy)]
+#[derive(Drop)]
 struct Side<'a> {
     run: Run<'a>,
     here: Option<Action>,
