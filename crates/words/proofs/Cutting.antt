@@ -7,12 +7,11 @@ use native.Mathlib.Omega.{arith}
 use lib.ListN.{length, get_or}
 use lib.Pow.{pow_mono}
 use borrow.Author.Tests.{leb-true}
-use Rattle.truth.proofs.Bools.{both_true}
 use Rattle.words.specs.declared.field.Field.{Field}
 use Rattle.words.specs.declared.field.Field.TheVariants.{Bits, Signed}
 use Rattle.words.specs.declared.fault.WordFault.TheVariants.{NoCommand}
-use Rattle.words.specs.Fields.{total, above, values, all_mean}
-use Rattle.words.specs.Layout.{filled, layout_of, signs, all_signs, Cuttable, Inside, Digit}
+use Rattle.words.specs.Fields.{above, values, all_mean}
+use Rattle.words.specs.Layout.{filled, layout_of, all_signs, Cuttable, Digit}
 use Rattle.words.specs.Table.{row, Found, none, some, row_of}
 use Rattle.words.specs.Words.{command, checked, decoded, spell_as, spell_word}
 use Rattle.words.proofs.Digits.{halves, above-div}
@@ -20,14 +19,6 @@ use Rattle.words.proofs.Packing.{padded, total-padded, OfLayout, five-same}
 use Rattle.words.proofs.Rows.{spelling-by}
 use Rattle.words.proofs.Table.{Sound, sound}
 use Rattle.std.specs.Prelude.{Option, Err}
-
--- ONE FIELD of several.
-
-pub first : {f : Field} {fs : List Field} → Cuttable (f ∷ fs) → Inside f (total fs)
-first {f} h = record { enough = h.narrow; signed = (both_true (signs f) _ h.signed).0 }
-
-pub rest : {f : Field} {fs : List Field} → Cuttable (f ∷ fs) → Cuttable fs
-rest {f} h = record { narrow = omega (arith, h.narrow); signed = (both_true (signs f) _ h.signed).1 }
 
 -- five fields by their places
 pub by-place : (fs : List Field) → length fs ≡ 5 → get_or fs 0 (Bits 0) ∷ get_or fs 1 (Bits 0) ∷ get_or fs 2 (Bits 0) ∷ get_or fs 3 (Bits 0) ∷ get_or fs 4 (Bits 0) ∷ [] ≡ fs

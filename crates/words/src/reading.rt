@@ -26,7 +26,7 @@ fn read_bitmap_layout(w: u32) -> Result<Word, WordFault>
     checked(
         is_meant(Meaning::Format, format),
         Word::BitmapLayout {
-            format: format,
+            format,
             linestride: (w >> 9) % 0x400,
             height: w % 512,
         },
@@ -40,7 +40,7 @@ fn read_stencil_func(w: u32) -> Result<Word, WordFault>
     checked(
         is_meant(Meaning::Function, func),
         Word::StencilFunc {
-            func: func,
+            func,
             reference: (w >> 8) % 256,
             mask: w % 256,
         },
@@ -54,7 +54,7 @@ fn read_blend_func(w: u32) -> Result<Word, WordFault>
     let dst = w % 8;
     checked(
         is_meant(Meaning::BlendFactor, src) & is_meant(Meaning::BlendFactor, dst),
-        Word::BlendFunc { src: src, dst: dst },
+        Word::BlendFunc { src, dst },
     )
 }
 
@@ -65,10 +65,7 @@ fn read_stencil_op(w: u32) -> Result<Word, WordFault>
     let spass = w % 8;
     checked(
         is_meant(Meaning::StencilAction, sfail) & is_meant(Meaning::StencilAction, spass),
-        Word::StencilOp {
-            sfail: sfail,
-            spass: spass,
-        },
+        Word::StencilOp { sfail, spass },
     )
 }
 
@@ -79,10 +76,7 @@ fn read_scissor_size(w: u32) -> Result<Word, WordFault>
     let height = w % 0x1000;
     checked(
         is_meant(Meaning::ScissorSide, width) & is_meant(Meaning::ScissorSide, height),
-        Word::ScissorSize {
-            width: width,
-            height: height,
-        },
+        Word::ScissorSize { width, height },
     )
 }
 
@@ -90,20 +84,14 @@ fn read_begin(w: u32) -> Result<Word, WordFault>
     ensures { result ≡ read_as (row_of 0x1F) w }
 {
     let prim = w % 16;
-    checked(
-        is_meant(Meaning::Primitive, prim),
-        Word::Begin { prim: prim },
-    )
+    checked(is_meant(Meaning::Primitive, prim), Word::Begin { prim })
 }
 
 fn read_vertex_format(w: u32) -> Result<Word, WordFault>
     ensures { result ≡ read_as (row_of 0x27) w }
 {
     let frac = w % 8;
-    checked(
-        is_meant(Meaning::Frac, frac),
-        Word::VertexFormat { frac: frac },
-    )
+    checked(is_meant(Meaning::Frac, frac), Word::VertexFormat { frac })
 }
 
 // A word whose two top bits are 0: the top byte names the command.

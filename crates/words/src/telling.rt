@@ -59,10 +59,7 @@ fn cut(w: u32, field: Field, low: u32) -> Piece
     let bits = low_bits(w >> low, width);
     let number = value_of(field, bits);
     let used = width + low;
-    Piece {
-        number: number,
-        used: used,
-    }
+    Piece { number, used }
 }
 
 // The numbers of a command's fields.

@@ -25,10 +25,7 @@ fn pack(low: Packed, field: Field, n: u32) -> Packed
     let lifted = own * power(low.used);
     let bits = lifted + low.bits;
     let used = width + low.used;
-    Packed {
-        bits: bits,
-        used: used,
-    }
+    Packed { bits, used }
 }
 
 // The numbers laid into the fields from the high bits down.
