@@ -54,6 +54,15 @@ write-spelt w s e = go (row_of (command w)) refl (sound (command w)) e
           join-values fs w p.narrow p.signed,
         )
 
+-- What is read as plain numbers is five of them.
+pub spelt-five : (w : ℕ) (s : Spelling) → spell_word w ≡ Ok s → spelling s.command s.numbers ≡ s
+unfolding spell_word
+spelt-five w s e = go (row_of (command w)) e
+  where
+    go : (f : Found) → spell_as f w ≡ Ok s → spelling s.command s.numbers ≡ s
+    go none e = let z : ◌≡◌ {A = ℕ} 0 1 = cc in absurd (omega arith)
+    go (some (row code fs make)) e = subst (λ (x : Spelling). spelling x.command x.numbers ≡ x) (checked-yes _ _ s e).1 refl
+
 -- THE COMMANDS. What is read as a command is what the same word's plain numbers name.
 
 -- c is the command of these numbers' row, with the numbers in its fields
