@@ -9,8 +9,8 @@ use Rattle.std.specs.Prelude.{Option, Some, None}
 use Rattle.action.specs.declared.shape.Bitmap.{Bitmap}
 use Rattle.action.specs.Ends.{short_ends}
 use Rattle.words.specs.Words.{read_word}
-use Rattle.words.specs.declared.reading.Read.{Read}
-use Rattle.words.specs.declared.reading.Read.TheVariants as r
+use Rattle.std.specs.Prelude.{Result, Ok, Err}
+use Rattle.words.specs.declared.fault.WordFault.{WordFault}
 use Rattle.words.specs.declared.word.Word.{Word}
 use Rattle.words.specs.declared.word.Word.TheVariants as v
 use Rattle.engine.specs.declared.handles.Handles.{Handles}
@@ -124,11 +124,10 @@ followed-ready : (m : Machine) (hs : Handles) (memory : ℕ) (then : Then) → R
 followed-ready m hs memory (t.Tell event) h = h
 followed-ready m hs memory (t.Place vertex) h = vertexed-ready m hs memory vertex
 
-read-ready : (m : Machine) (hs : Handles) (memory : ℕ) (read : Read) → ReadyStep (steps_by m hs memory read).stepped
-read-ready m hs memory (r.Command word) =
+read-ready : (m : Machine) (hs : Handles) (memory : ℕ) (read : Result Word WordFault) → ReadyStep (steps_by m hs memory read).stepped
+read-ready m hs memory (Ok word) =
     followed-ready _ (obeys m hs word).handles memory (obeys m hs word).obeyed.then (obeyed-ready m hs word)
-read-ready m hs memory r.NoCommand = tt
-read-ready m hs memory r.NoMeaning = tt
+read-ready m hs memory (Err fault) = tt
 
 stepped-ready : (m : Machine) (hs : Handles) (memory bits : ℕ) → ReadyStep (steps m hs memory bits).stepped
 unfolding steps

@@ -6,7 +6,7 @@ use native.Mathlib.Omega.{arith}
 use lib.ListN.{take}
 use Rattle.runs.specs.Runs.{word_at}
 use Rattle.words.specs.Words.{read_word}
-use Rattle.words.specs.declared.reading.Read.TheVariants as r
+use Rattle.std.specs.Prelude.{Ok}
 use Rattle.words.specs.declared.word.Word.TheVariants as v
 use Rattle.engine.specs.declared.context.Context.{Context}
 use Rattle.engine.specs.declared.kept.Engine.{Engine}
@@ -107,12 +107,12 @@ module _ (list : List ℕ) (memory : ℕ) (x : State) where
   abbrev past : Machine
   past = with_place x.engine.now (place_of x + 4)
 
-  save-word : read_word (word_at list (place_of x)) ≡ r.Command v.SaveContext →
+  save-word : read_word (word_at list (place_of x)) ≡ Ok v.SaveContext →
       next_of list memory x ≡ record { engine = pushed (record { now = past; kept = x.engine.kept }); handles = x.handles }
   unfolding steps obeys then-on
   save-word h = ap (λ read. then-on (steps_by past x.handles memory read)) h
 
-  restore-word : read_word (word_at list (place_of x)) ≡ r.Command v.RestoreContext →
+  restore-word : read_word (word_at list (place_of x)) ≡ Ok v.RestoreContext →
       next_of list memory x ≡ record { engine = popped (record { now = past; kept = x.engine.kept }); handles = x.handles }
   unfolding steps obeys then-on
   restore-word h = ap (λ read. then-on (steps_by past x.handles memory read)) h

@@ -1,10 +1,9 @@
 -- What is kept, as a plain list. Document 01, 'Words and state': 'Four contexts are kept. A fifth save drops the earliest; a restore with none
 -- kept loads the starting values. Primitive, open rectangle corner and bitmap handle settings are not part of a context.' The engine keeps
 -- an array, oldest first, and a count; `KeptAsSaid` says that they behave as the list of saves, newest first, cut to four.
-use Rattle.std.specs.Prelude.{◌≡◌, List, [], ◌∷◌, reverse, ℕ, ◌+◌, ◌≤◌, length, take, drop}
+use Rattle.std.specs.Prelude.{◌≡◌, List, [], ◌∷◌, reverse, ℕ, ◌+◌, ◌≤◌, length, take, drop, Ok}
 use Rattle.runs.specs.Runs.{word_at}
 use Rattle.words.specs.Words.{read_word}
-use Rattle.words.specs.declared.reading.Read.TheVariants as r
 use Rattle.words.specs.declared.word.Word.TheVariants as v
 use Rattle.engine.specs.declared.context.Context.{Context}
 use Rattle.engine.specs.declared.kept.Engine.{Engine}
@@ -68,9 +67,9 @@ pub record KeptAsSaid : Type 0 where
   -- every state of a run is whole, since the start is
   pub next-whole : (list : List ℕ) (memory : ℕ) (x : State) → Whole x.engine.kept → Whole (next_of list memory x).engine.kept
   -- the two words do to the engine what push and pop do, past the word, and leave the bitmap handle settings as they are
-  pub save-word : (list : List ℕ) (memory : ℕ) (x : State) → read_word (word_at list (place_of x)) ≡ r.Command v.SaveContext →
+  pub save-word : (list : List ℕ) (memory : ℕ) (x : State) → read_word (word_at list (place_of x)) ≡ Ok v.SaveContext →
       next_of list memory x ≡
       record { engine = pushed (record { now = with_place x.engine.now (place_of x + 4); kept = x.engine.kept }); handles = x.handles }
-  pub restore-word : (list : List ℕ) (memory : ℕ) (x : State) → read_word (word_at list (place_of x)) ≡ r.Command v.RestoreContext →
+  pub restore-word : (list : List ℕ) (memory : ℕ) (x : State) → read_word (word_at list (place_of x)) ≡ Ok v.RestoreContext →
       next_of list memory x ≡
       record { engine = popped (record { now = with_place x.engine.now (place_of x + 4); kept = x.engine.kept }); handles = x.handles }

@@ -1,6 +1,8 @@
 // Why a run stops before its list has ended.
 ghost use Rattle.std.specs.Prelude.{◌≡◌};
-ghost use Rattle.engine.specs.Fault.{fault_number};
+ghost use Rattle.engine.specs.Fault.{fault_number, fault_of};
+
+use words::WordFault;
 
 #[derive(Clone, Copy, PartialEq, Eq)]
 pub enum Fault {
@@ -37,6 +39,18 @@ impl Fault {
             Fault::Undrawable => 18,
             Fault::LimitReached => 19,
             Fault::EndTooFar => 20,
+        }
+    }
+}
+
+// A word that could not be read stops the run.
+impl From<WordFault> for Fault {
+    ghost from_gives = { λ why fault. fault ≡ fault_of why };
+
+    fn from(why: WordFault) -> Fault {
+        match why {
+            WordFault::NoCommand => Fault::NoCommand,
+            WordFault::NoMeaning => Fault::NoMeaning,
         }
     }
 }

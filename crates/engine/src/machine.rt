@@ -11,7 +11,6 @@ use crate::handles::Handles;
 use crate::vertex::Corner;
 use action::{Bitmap, Point, Rectangle, Segment};
 use units::Sixteenths;
-use words::Read;
 
 // `calls` holds the return addresses, newest first, and `depth` how many are open. `primitive` is BEGIN's number, 1 for BITMAPS, 2 for POINTS,
 // 3 for LINES, 4 for LINE_STRIP and 9 for RECTS, or 0 while none is begun.
@@ -92,7 +91,7 @@ impl Machine {
         ensures { (result ≡ (steps self handles.old memory bits).stepped) × (handles.new ≡ (steps self handles.old memory bits).handles) }
     {
         match words::read_word(bits) {
-            Read::Command(word) => {
+            Ok(word) => {
                 let obeyed = self.obey(handles, word);
                 let machine = obeyed.machine;
                 let then = obeyed.then;
@@ -104,13 +103,9 @@ impl Machine {
                     Then::Place(v) => machine.vertex(handles, memory, v),
                 }
             }
-            Read::NoCommand => Stepped {
+            Err(fault) => Stepped {
                 machine: self,
-                event: Event::Fault(Fault::NoCommand),
-            },
-            Read::NoMeaning => Stepped {
-                machine: self,
-                event: Event::Fault(Fault::NoMeaning),
+                event: Event::Fault(Fault::from(fault)),
             },
         }
     }

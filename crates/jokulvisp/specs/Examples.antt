@@ -1,12 +1,12 @@
 -- Document 01, 'Checked by hand': 'Proved of the meaning itself, as a single table under a single claim: 1-12.' The claim is `CheckedByHand`; example 13 is
 -- run and compared.
-use Rattle.std.specs.Prelude.{◌≡◌, List, [], ◌∷◌, ◌++◌, ℕ, zero, suc, ℤ, pos, neg_ℤ}
+use Rattle.std.specs.Prelude.{◌≡◌, List, [], ◌∷◌, ◌++◌, ℕ, zero, suc, ℤ, pos, neg_ℤ, Ok, Err}
 use Rattle.action.specs.declared.numbers.Factor.TheVariants.{One}
 use Rattle.engine.specs.Run.{State, next_of, run_of, at_start}
 use Rattle.pixel.specs.Blend.{product, weight, blended}
 use Rattle.runs.specs.Runs.{bytes_of}
 use Rattle.units.specs.Units.{meant_pixels, floor16, sixteenth_at, floored}
-use Rattle.words.specs.declared.reading.Read.TheVariants.{Command, NoMeaning}
+use Rattle.words.specs.declared.fault.WordFault.TheVariants.{NoMeaning}
 use Rattle.words.specs.declared.word.Word.TheVariants.{Vertex2f, Vertex2ii, ScissorSize}
 use Rattle.words.specs.Words.{read_word}
 
@@ -45,16 +45,16 @@ pub record LiesIn (z q : ℤ) : Type 0 where
 
 pub record CheckedByHand : Type 0 where
   -- '1. 40F00110 reads VERTEX2F (480, 272).'
-  pub one : read_word 0x40F00110 ≡ Command (Vertex2f (pos 480) (pos 272))
+  pub one : read_word 0x40F00110 ≡ Ok (Vertex2f (pos 480) (pos 272))
   -- '2. 7FF80000 reads VERTEX2F (-16, 0).'
-  pub two : read_word 0x7FF80000 ≡ Command (Vertex2f (neg_ℤ (pos 16)) (pos 0))
+  pub two : read_word 0x7FF80000 ≡ Ok (Vertex2f (neg_ℤ (pos 16)) (pos 0))
   -- '3. 9B86EFD4 reads VERTEX2II (220, 110, 31, 84).'
-  pub three : read_word 0x9B86EFD4 ≡ Command (Vertex2ii 220 110 31 84)
+  pub three : read_word 0x9B86EFD4 ≡ Ok (Vertex2ii 220 110 31 84)
   -- '4. 1C05003C reads SCISSOR_SIZE (80, 60).'
-  pub four : read_word 0x1C05003C ≡ Command (ScissorSize 80 60)
+  pub four : read_word 0x1C05003C ≡ Ok (ScissorSize 80 60)
   -- '5. 1C800800 is accepted; 1C801800 gives 12.'
-  pub five_accepted : read_word 0x1C800800 ≡ Command (ScissorSize 2048 2048)
-  pub five_refused : read_word 0x1C801800 ≡ NoMeaning
+  pub five_accepted : read_word 0x1C800800 ≡ Ok (ScissorSize 2048 2048)
+  pub five_refused : read_word 0x1C801800 ≡ Err NoMeaning
   -- '6. 1D000000 alone, limit 9: number 14, place 0, count 5.'
   pub six : Ends (0x1D000000 ∷ []) 9 14 0 5
   -- '7. 1E000000 alone, limit 3: number 19, place 0, count 3.'

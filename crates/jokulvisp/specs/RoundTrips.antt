@@ -1,6 +1,6 @@
 -- What holds between jv_write_word and jv_read_word. The second demand of the order: 'Reading a written command gives it back; writing a read word gives the
 -- word with its reserved bits cleared.' Nothing is asked of a call but that its number is 0.
-use Rattle.std.specs.Prelude.{◌≡◌, ℕ}
+use Rattle.std.specs.Prelude.{◌≡◌, ℕ, [], ◌∷◌}
 use Rattle.words.specs.declared.spelling.Spelling.{Spelling}
 use Rattle.words.specs.Words.{cleared}
 use Rattle.jokulvisp.specs.declared.JvBits.{JvBits}
@@ -9,7 +9,10 @@ use Rattle.jokulvisp.specs.Words.{word_told, ReadAnswer, WriteAnswer}
 
 -- the six numbers that jv_read_word answered, as jv_write_word takes them
 abbrev pub numbers_in : JvWord → Spelling
-numbers_in answer = record { 0 = answer.command; 1 = answer.a; 2 = answer.b; 3 = answer.c; 4 = answer.d; 5 = answer.e }
+numbers_in answer = record {
+  command = answer.command;
+  numbers = answer.a ∷ answer.b ∷ answer.c ∷ answer.d ∷ answer.e ∷ [];
+}
 
 -- THE CLAIM, for every six numbers and every word
 pub record RoundTrips : Type 0 where

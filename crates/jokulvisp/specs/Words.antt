@@ -1,28 +1,31 @@
 -- What jv_read_word and jv_write_word answer. Document 01, 'Number table': 'A word read or written alone gives only 0, 11 or 12'.
 -- include/jokulvisp.h: the command's number and its fields as plain numbers; where the number is not 0 the rest is 0.
-use Rattle.std.specs.Prelude.{ℕ, [], ◌≡◌}
+use Rattle.std.specs.Prelude.{ℕ, [], ◌≡◌, get_or, Result, Ok, Err}
+use Rattle.words.specs.declared.fault.WordFault.{WordFault}
 use Rattle.words.specs.declared.spelling.Spelling.{Spelling}
-use Rattle.words.specs.declared.telling.Spelt.{Spelt}
-use Rattle.words.specs.declared.telling.Spelt.TheVariants as t
-use Rattle.words.specs.declared.writing.Written.{Written}
-use Rattle.words.specs.declared.writing.Written.TheVariants as o
 use Rattle.words.specs.Table.{spelling}
-use Rattle.words.specs.Words.{spell_word, write_spelling}
+use Rattle.words.specs.Words.{word_fault_number, spell_word, write_spelling}
 use Rattle.jokulvisp.specs.declared.JvBits.{JvBits}
 use Rattle.jokulvisp.specs.declared.JvWord.{JvWord}
 
 abbrev pub word_told : ℕ → Spelling → JvWord
-word_told n s = record { number = n; command = s.0; a = s.1; b = s.2; c = s.3; d = s.4; e = s.5 }
+word_told n s = record {
+  number = n;
+  command = s.command;
+  a = get_or s.numbers 0 0;
+  b = get_or s.numbers 1 0;
+  c = get_or s.numbers 2 0;
+  d = get_or s.numbers 3 0;
+  e = get_or s.numbers 4 0;
+}
 
-abbrev pub read_told : Spelt → JvWord
-read_told (t.Fields s) = word_told 0 s
-read_told t.NoCommand = word_told 11 (spelling 0 [])
-read_told t.NoMeaning = word_told 12 (spelling 0 [])
+abbrev pub read_told : Result Spelling WordFault → JvWord
+read_told (Ok s) = word_told 0 s
+read_told (Err fault) = word_told (word_fault_number fault) (spelling 0 [])
 
-abbrev pub written_told : Written → JvBits
-written_told (o.Bits n) = record { number = 0; bits = n }
-written_told o.NoCommand = record { number = 11; bits = 0 }
-written_told o.NoMeaning = record { number = 12; bits = 0 }
+abbrev pub written_told : Result ℕ WordFault → JvBits
+written_told (Ok n) = record { number = 0; bits = n }
+written_told (Err fault) = record { number = word_fault_number fault; bits = 0 }
 
 -- jv_read_word, for every word
 unfoldable pub ReadAnswer : ℕ → JvWord → Type 0

@@ -2,7 +2,7 @@
 // promises what that one does.
 #![tactic(auto)]
 
-ghost use Rattle.std.specs.Prelude.{length};
+ghost use Rattle.std.specs.Prelude.{length, [], ◌∷◌};
 ghost use Rattle.jokulvisp.specs.Check.{CheckAnswer};
 ghost use Rattle.jokulvisp.specs.Paint.{PaintAnswer, PaintRowAnswer};
 ghost use Rattle.jokulvisp.specs.Repaint.{RepaintAnswer};
@@ -20,7 +20,7 @@ pub extern "C" fn jv_read_word(bits: u32) -> JvWord
 
 #[unsafe(no_mangle)]
 pub extern "C" fn jv_write_word(command: u32, a: u32, b: u32, c: u32, d: u32, e: u32) -> JvBits
-    ensures { WriteAnswer (record { 0 = command; 1 = a; 2 = b; 3 = c; 4 = d; 5 = e }) result }
+    ensures { WriteAnswer (record { command = command; numbers = a ∷ b ∷ c ∷ d ∷ e ∷ [] }) result }
 {
     jokulvisp::jv_write_word(command, a, b, c, d, e)
 }

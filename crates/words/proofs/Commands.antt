@@ -10,8 +10,9 @@ use borrow.Author.Tests.{ltb-true}
 use Rattle.truth.proofs.Bools.{both_true}
 use Rattle.words.specs.declared.field.Field.{Field}
 use Rattle.words.specs.declared.field.Field.TheVariants.{Bits, Only, Signed}
-use Rattle.words.specs.declared.reading.Read.{Read}
-use Rattle.words.specs.declared.reading.Read.TheVariants as r
+use Rattle.std.specs.Prelude.{Result, Ok, Err}
+use Rattle.words.specs.declared.fault.WordFault.{WordFault}
+use Rattle.words.specs.declared.fault.WordFault.TheVariants.{NoCommand, NoMeaning}
 use Rattle.words.specs.declared.word.Word.{Word}
 use Rattle.words.specs.Fields.{InBits, int, meant, holds, total, values, all_mean, fit}
 use Rattle.words.specs.Table.{Row, row, Make, Found, none, some, find, rows, row_of, apply}
@@ -60,8 +61,8 @@ in-found P (row code fs make ∷ rs) a n = go (eqb n code) (in-found P rs a.1 n)
     go false rest = rest
 
 -- THE LAW: Q holds of what is read, whatever the word, if it follows from P of a command and holds of both refusals
-module _ (P : Word → Type 0) (Q : Read → Type 0) (all : InAll P rows) (follows : (c : Word) → P c → Q (r.Command c)) where
-  pub read-cases : Q r.NoCommand → Q r.NoMeaning → (w : ℕ) → Q (read_word w)
+module _ (P : Word → Type 0) (Q : Result Word WordFault → Type 0) (all : InAll P rows) (follows : (c : Word) → P c → Q (Ok c)) where
+  pub read-cases : Q (Err NoCommand) → Q (Err NoMeaning) → (w : ℕ) → Q (read_word w)
   unfolding read_word checked
   read-cases p q w = go (row_of (command w)) (sound (command w)) (in-found P rows all (command w))
     where

@@ -7,27 +7,28 @@ use native.Mathlib.Omega.{arith}
 use lib.ListN.{length, get_or}
 use lib.Pow.{pow_mono}
 use borrow.Author.Tests.{leb-true}
-use Rattle.truth.proofs.Bools.{both_true}
 use Rattle.words.specs.declared.field.Field.{Field}
-use Rattle.words.specs.declared.field.Field.TheVariants.{Signed}
-use Rattle.words.specs.declared.field.Layout.{Layout}
-use Rattle.words.specs.declared.telling.Spelt.TheVariants as t
-use Rattle.words.specs.Fields.{total, above, values, all_mean}
-use Rattle.words.specs.Layout.{layout_of, signs, all_signs, Cuttable, Inside, Digit}
+use Rattle.words.specs.declared.field.Field.TheVariants.{Bits, Signed}
+use Rattle.words.specs.declared.fault.WordFault.TheVariants.{NoCommand}
+use Rattle.words.specs.Fields.{above, values, all_mean}
+use Rattle.words.specs.Layout.{filled, layout_of, all_signs, Cuttable, Digit}
 use Rattle.words.specs.Table.{row, Found, none, some, row_of}
-use Rattle.words.specs.Words.{command, spelt, decoded, spell_as, spell_word}
+use Rattle.words.specs.Words.{command, checked, decoded, spell_as, spell_word}
 use Rattle.words.proofs.Digits.{halves, above-div}
-use Rattle.words.proofs.Packing.{padded, total-padded, OfLayout, of-laid}
+use Rattle.words.proofs.Packing.{padded, total-padded, OfLayout, five-same}
 use Rattle.words.proofs.Rows.{spelling-by}
 use Rattle.words.proofs.Table.{Sound, sound}
+use Rattle.std.specs.Prelude.{Option, Err}
 
--- ONE FIELD of several.
-
-pub first : {f : Field} {fs : List Field} → Cuttable (f ∷ fs) → Inside f (total fs)
-first {f} h = record { enough = h.narrow; signed = (both_true (signs f) _ h.signed).0 }
-
-pub rest : {f : Field} {fs : List Field} → Cuttable (f ∷ fs) → Cuttable fs
-rest {f} h = record { narrow = omega (arith, h.narrow); signed = (both_true (signs f) _ h.signed).1 }
+-- five fields by their places
+pub by-place : (fs : List Field) → length fs ≡ 5 → get_or fs 0 (Bits 0) ∷ get_or fs 1 (Bits 0) ∷ get_or fs 2 (Bits 0) ∷ get_or fs 3 (Bits 0) ∷ get_or fs 4 (Bits 0) ∷ [] ≡ fs
+by-place [] l = absurd (omega arith)
+by-place (a ∷ []) l = absurd (omega arith)
+by-place (a ∷ b ∷ []) l = absurd (omega arith)
+by-place (a ∷ b ∷ c ∷ []) l = absurd (omega arith)
+by-place (a ∷ b ∷ c ∷ d ∷ []) l = absurd (omega arith)
+by-place (a ∷ b ∷ c ∷ d ∷ e ∷ []) l = refl
+by-place (a ∷ b ∷ c ∷ d ∷ e ∷ f ∷ fs) l = absurd (omega arith)
 
 pub signed-digit : {k n : ℕ} → Digit (Signed k) n → (2 ^ k / 2 ≤ 2 ^ 30) × (n < 2 ^ k / 2 + 2 ^ k / 2)
 signed-digit {k} h = (omega (arith, pow_mono h.narrow), omega (arith, h.below, halves k h.narrow (leb-true _ _ h.signed)))
@@ -57,41 +58,35 @@ signs-padded (f ∷ fs) k = rw (signs-padded fs k)
 decoded-padded : (fs : List Field) (k n w : ℕ) → decoded n (padded fs k) w ≡ decoded n fs w
 decoded-padded fs k n w =
     rw (means-padded fs k w)
-    (ap (spelt (all_mean fs (values fs w))) (spelling-by n (values (padded fs k) w) (values fs w) (values-padded fs k w)))
+    (ap (checked (all_mean fs (values fs w))) (spelling-by n (values (padded fs k) w) (values fs w) (values-padded fs k w)))
 
 cuttable-padded : (fs : List Field) (k : ℕ) → Cuttable fs → Cuttable (padded fs k)
 cuttable-padded fs k h = record { narrow = rw (total-padded fs k) h.narrow; signed = rw (signs-padded fs k) h.signed }
 
 -- A ROW AS THE CODE KEEPS IT.
 
--- a command's fields and, up to five, fields without bits
-abbrev pub filled : List Field → List Field
-filled fs = padded fs (5 - length fs)
-
 -- what a layout says of the word w, whose command's number is n
 pub record Tells (w n : ℕ) (fs : List Field) : Type 0 where
-  pub cuttable : Cuttable (filled fs)
-  pub tells : decoded n (filled fs) w ≡ spell_word w
+  pub cuttable : Cuttable fs
+  pub tells : length (values fs w) ≡ 5 → checked (all_mean fs (values fs w)) (record { command = n; numbers = values fs w }) ≡ spell_word w
 
-pub telling : (w : ℕ) {n : ℕ} {f l : Layout} → n ≡ command w → f ≡ layout_of (row_of n) → f ≡ l → OfLayout (spell_word w ≡ t.NoCommand) (Tells w n) l
+pub telling : (w : ℕ) {n : ℕ} {l : Option (List Field)} → n ≡ command w → layout_of (row_of n) ≡ l → OfLayout (spell_word w ≡ Err NoCommand) (Tells w n) l
 unfolding spell_word
-telling w {n} e g h = subst (OfLayout (spell_word w ≡ t.NoCommand) (Tells w n)) (sym g ∙ h) (go (row_of n) refl (sound n))
+telling w {n} e h = subst (OfLayout (spell_word w ≡ Err NoCommand) (Tells w n)) h (go (row_of n) refl (sound n))
   where
     spells : (f : Found) → row_of n ≡ f → spell_word w ≡ spell_as f w
     spells f q = rw (← e, q)
 
-    go : (f : Found) → row_of n ≡ f → Sound n f → OfLayout (spell_word w ≡ t.NoCommand) (Tells w n) (layout_of f)
+    go : (f : Found) → row_of n ≡ f → Sound n f → OfLayout (spell_word w ≡ Err NoCommand) (Tells w n) (layout_of f)
     go none q p = spells none q
     go (some (row code fs make)) q p =
-        of-laid
-        (spell_word w ≡ t.NoCommand)
-        (Tells w n)
-        fs
-        p.few
-        (record {
+        record {
           cuttable = cuttable-padded fs (5 - length fs) (record { narrow = p.narrow; signed = p.signed });
-          tells =
-              decoded-padded fs (5 - length fs) n w
+          tells = λ l.
+              ap
+              (λ (ns : List ℕ). checked (all_mean (filled fs) (values (filled fs) w)) (record { command = n; numbers = ns }))
+              (sym (five-same (values (filled fs) w) l))
+              ∙ decoded-padded fs (5 - length fs) n w
               ∙ ap (λ (m : ℕ). decoded m fs w) (sym p.own)
               ∙ sym (spells (some (row code fs make)) q);
-        })
+        }

@@ -1,28 +1,25 @@
 -- The code's way to keep and pack a row's fields gives what the table says.
 -- Assumes nothing.
-use Prim.Native.Nat.{ℕ, zero, suc, ◌+◌, ◌%◌, ◌≤◌}
+use Prim.Native.Nat.{ℕ, zero, suc, ◌+◌, ◌-◌, ◌*◌, ◌%◌, ◌^◌, ◌≤◌}
 use mathlib.Core.Path.{◌≡◌, refl, ap, subst}
-use mathlib.Core.List.{List, [], ◌∷◌}
+use mathlib.Core.List.{List, [], ◌∷◌, ◌++◌}
 use native.Mathlib.Omega.{arith}
-use lib.ListN.{length}
+use lib.ListN.{length, replicate}
 use Rattle.words.specs.declared.field.Field.{Field}
 use Rattle.words.specs.declared.field.Field.TheVariants.{Bits}
-use Rattle.words.specs.declared.field.Layout.{Layout}
-use Rattle.words.specs.declared.field.Layout.TheVariants.{NoCommand, None, One, Two, Three, Four, Five}
+use Rattle.words.specs.declared.fault.WordFault.TheVariants.{NoCommand}
 use Rattle.words.specs.declared.spelling.Spelling.{Spelling}
-use Rattle.words.specs.declared.writing.Written.TheVariants as o
 use Rattle.words.specs.Fields.{width, total, fit, join}
-use Rattle.words.specs.Layout.{laid, layout_of}
-use Rattle.words.specs.Table.{row, Found, none, some, row_of, numbers}
-use Rattle.words.specs.Words.{encoded, write_spelling}
+use Rattle.words.specs.Layout.{filled, layout_of}
+use Rattle.words.specs.Table.{row, Found, none, some, row_of, five, numbers}
+use Rattle.words.specs.Words.{checked, encoded, write_spelling}
 use Rattle.words.proofs.Table.{Sound, sound}
+use Rattle.std.specs.Prelude.{Option, Some, None, Err}
 
 -- FIELDS WITHOUT BITS after a command's own change nothing.
 
 abbrev pub padded : List Field → ℕ → List Field
-padded [] zero = []
-padded [] (suc k) = Bits 0 ∷ padded [] k
-padded (f ∷ fs) k = f ∷ padded fs k
+padded fs k = fs ++ replicate k (Bits 0)
 
 pub total-padded : (fs : List Field) (k : ℕ) → total (padded fs k) ≡ total fs
 total-padded [] zero = refl
@@ -49,35 +46,36 @@ encoded-padded fs k s h = rw (fit-padded fs k (numbers s) h, join-padded fs k (n
 -- A ROW AS THE CODE KEEPS IT.
 
 -- A where there is no command, P of the fields where there is one
-abbrev pub OfLayout : Type 0 → (List Field → Type 0) → Layout → Type 0
-OfLayout A P NoCommand = A
-OfLayout A P None = P []
-OfLayout A P (One a) = P (a ∷ [])
-OfLayout A P (Two a b) = P (a ∷ b ∷ [])
-OfLayout A P (Three a b c) = P (a ∷ b ∷ c ∷ [])
-OfLayout A P (Four a b c d) = P (a ∷ b ∷ c ∷ d ∷ [])
-OfLayout A P (Five a b c d e) = P (a ∷ b ∷ c ∷ d ∷ e ∷ [])
+abbrev pub OfLayout : Type 0 → (List Field → Type 0) → Option (List Field) → Type 0
+OfLayout A P None = A
+OfLayout A P (Some fs) = P fs
 
-pub of-laid : (A : Type 0) (P : List Field → Type 0) (fs : List Field) → length fs ≤ 5 → P fs → OfLayout A P (laid fs)
-of-laid A P [] l h = h
-of-laid A P (a ∷ []) l h = h
-of-laid A P (a ∷ b ∷ []) l h = h
-of-laid A P (a ∷ b ∷ c ∷ []) l h = h
-of-laid A P (a ∷ b ∷ c ∷ d ∷ []) l h = h
-of-laid A P (a ∷ b ∷ c ∷ d ∷ e ∷ []) l h = h
-of-laid A P (a ∷ b ∷ c ∷ d ∷ e ∷ f ∷ fs) l h = absurd (omega arith)
+-- the numbers of an array of five
+pub five-same : (ns : List ℕ) → length ns ≡ 5 → five ns ≡ ns
+five-same [] l = absurd (omega arith)
+five-same (a ∷ []) l = absurd (omega arith)
+five-same (a ∷ b ∷ []) l = absurd (omega arith)
+five-same (a ∷ b ∷ c ∷ []) l = absurd (omega arith)
+five-same (a ∷ b ∷ c ∷ d ∷ []) l = absurd (omega arith)
+five-same (a ∷ b ∷ c ∷ d ∷ e ∷ []) l = refl
+five-same (a ∷ b ∷ c ∷ d ∷ e ∷ f ∷ ns) l = absurd (omega arith)
 
 -- what a spelling's layout says of writing it
 pub record Writes (s : Spelling) (fs : List Field) : Type 0 where
-  pub low : s.0 ≤ 128
+  pub low : s.command ≤ 128
   pub narrow : total fs ≤ 30
-  pub writes : write_spelling s ≡ encoded fs s
+  pub writes : length s.numbers ≡ 5 → write_spelling s ≡ checked (fit fs s.numbers) (s.command * 2 ^ 24 + join fs s.numbers)
 
-pub writing : (s : Spelling) {l : Layout} → layout_of (row_of s.0) ≡ l → OfLayout (write_spelling s ≡ o.NoCommand) (Writes s) l
+pub writing : (s : Spelling) {l : Option (List Field)} → layout_of (row_of s.command) ≡ l → OfLayout (write_spelling s ≡ Err NoCommand) (Writes s) l
 unfolding write_spelling
-writing s e = subst (OfLayout (write_spelling s ≡ o.NoCommand) (Writes s)) e (go (row_of s.0) refl (sound s.0))
+writing s e = subst (OfLayout (write_spelling s ≡ Err NoCommand) (Writes s)) e (go (row_of s.command) refl (sound s.command))
   where
-    go : (f : Found) → row_of s.0 ≡ f → Sound s.0 f → OfLayout (write_spelling s ≡ o.NoCommand) (Writes s) (layout_of f)
+    go : (f : Found) → row_of s.command ≡ f → Sound s.command f → OfLayout (write_spelling s ≡ Err NoCommand) (Writes s) (layout_of f)
     go none q h = rw q
-    go (some (row code fs make)) q h =
-        of-laid (write_spelling s ≡ o.NoCommand) (Writes s) fs h.few (record { low = h.low; narrow = h.narrow; writes = rw q })
+    go (some (row code fs make)) q h = record {
+      low = h.low;
+      narrow = rw (total-padded fs (5 - length fs)) h.narrow;
+      writes = λ l.
+          rw (q, ← encoded-padded fs (5 - length fs) s (omega (arith, h.few)))
+          (ap (λ (ns : List ℕ). checked (fit (filled fs) ns) (s.command * 2 ^ 24 + join (filled fs) ns)) (five-same s.numbers l));
+    }

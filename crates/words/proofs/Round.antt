@@ -8,45 +8,41 @@ use native.Mathlib.Nat.{mod-lt}
 use native.Mathlib.Omega.{arith}
 use lib.Pow.{pow_pos}
 use Rattle.words.specs.declared.field.Field.{Field}
-use Rattle.words.specs.declared.reading.Read.{Read}
-use Rattle.words.specs.declared.reading.Read.TheVariants as r
+use Rattle.std.specs.Prelude.{Result, Ok, Err, length}
+use Rattle.words.specs.declared.fault.WordFault.{WordFault}
 use Rattle.words.specs.declared.spelling.Spelling.{Spelling}
-use Rattle.words.specs.declared.telling.Spelt.{Spelt}
-use Rattle.words.specs.declared.telling.Spelt.TheVariants as t
 use Rattle.words.specs.declared.word.Word.{Word}
-use Rattle.words.specs.declared.writing.Written.TheVariants as o
 use Rattle.words.specs.Fields.{total, values, all_mean}
 use Rattle.words.specs.Table.{row, Make, Found, none, some, row_of, apply, spelling, numbers}
-use Rattle.words.specs.Words.{command, checked, read_as, read_word, spelt, spell_as, spell_word, written, write_as, write_spelling, cleared_as, cleared}
+use Rattle.words.specs.Words.{command, checked, read_as, read_word, spell_as, spell_word, write_as, write_spelling, cleared_as, cleared}
 use Rattle.words.proofs.Digits.{join-values, values_low, fit-values, fit-means}
 use Rattle.words.proofs.Table.{Sound, sound, command-of}
-use Rattle.words.proofs.Rows.{Five, five-of, apply-front, spelling-back, lifted, Holds, encoded-holds}
+use Rattle.words.proofs.Rows.{Five, five-of, apply-front, spelling-same, spelling-back, lifted, checked-yes, Holds, encoded-holds}
 
--- Reading a written command gives it back.
-pub spell-written : (s : Spelling) (w : ℕ) → write_spelling s ≡ o.Bits w → spell_word w ≡ t.Fields s
-unfolding write_spelling spell_word spelt
-spell-written s w e = go (row_of s.0) refl (sound s.0) e
+-- Reading a written command gives it back, with 0 for each of the five numbers that a list lacks.
+pub spell-written-list : (s : Spelling) (w : ℕ) → write_spelling s ≡ Ok w → spell_word w ≡ Ok (spelling s.command s.numbers)
+unfolding write_spelling spell_word checked
+spell-written-list s w e = go (row_of s.command) refl (sound s.command) e
   where
-    go : (f : Found) → row_of s.0 ≡ f → Sound s.0 f → write_as f s ≡ o.Bits w → spell_word w ≡ t.Fields s
+    go : (f : Found) → row_of s.command ≡ f → Sound s.command f → write_as f s ≡ Ok w → spell_word w ≡ Ok (spelling s.command s.numbers)
     go none q p e = let z : ◌≡◌ {A = ℕ} 0 1 = cc in absurd (omega arith)
     go (some (row code fs make)) q p e =
         let h : Holds fs s w = encoded-holds s w p e in
-        rw (h.own, q, h.back, fit-means fs (numbers s) h.fits, p.own) (ap t.Fields (spelling-back fs s h.fits))
+        rw (h.own, q, h.back, fit-means fs (numbers s) h.fits, p.own) (ap (λ (x : Spelling). Ok x) (spelling-back fs s h.fits))
 
-spelt-yes : (b : Bool) (s u : Spelling) → spelt b s ≡ t.Fields u → (b ≡ true) × (s ≡ u)
-unfolding spelt
-spelt-yes true s u h = (refl, cc)
-spelt-yes false s u h = let z : ◌≡◌ {A = ℕ} 0 1 = cc in absurd (omega arith)
+-- Reading a written command gives it back: of the type Spelling is what has five numbers.
+pub spell-written : (s : Spelling) (w : ℕ) → length s.numbers ≡ 5 → write_spelling s ≡ Ok w → spell_word w ≡ Ok s
+spell-written s w l e = spell-written-list s w e ∙ ap (λ (x : Spelling). Ok x) (spelling-same s l)
 
 -- Writing a read word gives the word with its reserved bits cleared.
-pub write-spelt : (w : ℕ) (s : Spelling) → spell_word w ≡ t.Fields s → write_spelling s ≡ o.Bits (cleared w)
-unfolding written spell_word write_spelling cleared
+pub write-spelt : (w : ℕ) (s : Spelling) → spell_word w ≡ Ok s → write_spelling s ≡ Ok (cleared w)
+unfolding checked spell_word write_spelling cleared
 write-spelt w s e = go (row_of (command w)) refl (sound (command w)) e
   where
-    go : (f : Found) → row_of (command w) ≡ f → Sound (command w) f → spell_as f w ≡ t.Fields s → write_spelling s ≡ o.Bits (cleared_as f w)
+    go : (f : Found) → row_of (command w) ≡ f → Sound (command w) f → spell_as f w ≡ Ok s → write_spelling s ≡ Ok (cleared_as f w)
     go none q p e = let z : ◌≡◌ {A = ℕ} 0 1 = cc in absurd (omega arith)
     go (some (row code fs make)) q p e =
-        let k : (all_mean fs (values fs w) ≡ true) × (spelling code (values fs w) ≡ s) = spelt-yes _ _ s e in
+        let k : (all_mean fs (values fs w) ≡ true) × (spelling code (values fs w) ≡ s) = checked-yes _ _ s e in
         let h : Five fs (values fs w) (numbers (spelling (command w) (values fs w))) = five-of fs (command w) w p.few in
         rw (
           ← k.1,
@@ -58,24 +54,32 @@ write-spelt w s e = go (row_of (command w)) refl (sound (command w)) e
           join-values fs w p.narrow p.signed,
         )
 
+-- What is read as plain numbers is five of them.
+pub spelt-five : (w : ℕ) (s : Spelling) → spell_word w ≡ Ok s → spelling s.command s.numbers ≡ s
+unfolding spell_word
+spelt-five w s e = go (row_of (command w)) e
+  where
+    go : (f : Found) → spell_as f w ≡ Ok s → spelling s.command s.numbers ≡ s
+    go none e = let z : ◌≡◌ {A = ℕ} 0 1 = cc in absurd (omega arith)
+    go (some (row code fs make)) e = subst (λ (x : Spelling). spelling x.command x.numbers ≡ x) (checked-yes _ _ s e).1 refl
+
 -- THE COMMANDS. What is read as a command is what the same word's plain numbers name.
 
 -- c is the command of these numbers' row, with the numbers in its fields
-abbrev pub NamesBy : Found → Spelling → Word → Type 0
-NamesBy none s c = ⊥
-NamesBy (some (row code fs make)) s c = apply fs make (numbers s) ≡ c
+abbrev pub NamesBy : Found → List ℕ → Word → Type 0
+NamesBy none ns c = ⊥
+NamesBy (some (row code fs make)) ns c = apply fs make ns ≡ c
 
 abbrev pub Names : Spelling → Word → Type 0
-Names s c = NamesBy (row_of s.0) s c
+Names s c = NamesBy (row_of s.command) (numbers s) c
 
 -- a word read both ways: the command that the plain numbers name, or the same refusal
-abbrev pub Agree : Spelt → Read → Type 0
-Agree (t.Fields s) q = (c : Word) × (q ≡ r.Command c) × Names s c
-Agree t.NoCommand q = q ≡ r.NoCommand
-Agree t.NoMeaning q = q ≡ r.NoMeaning
+abbrev pub Agree : Result Spelling WordFault → Result Word WordFault → Type 0
+Agree (Ok s) q = (c : Word) × (q ≡ Ok c) × Names s c
+Agree (Err fault) q = q ≡ Err fault
 
-agree-where : (meant : Bool) (s : Spelling) (c : Word) → Names s c → Agree (spelt meant s) (checked meant c)
-unfolding spelt checked
+agree-where : (meant : Bool) (s : Spelling) (c : Word) → Names s c → Agree (checked meant s) (checked meant c)
+unfolding checked
 agree-where true s c h = (c, refl, h)
 agree-where false s c h = refl
 
@@ -93,8 +97,8 @@ agree w = go (row_of (command w)) refl (sound (command w))
         (rw (p.own, q) (sym (apply-front fs make _) ∙ ap (apply fs make) (five-of fs (command w) w p.few).first))
 
 -- Reading a written command gives the command that its numbers name.
-pub read-written : (s : Spelling) (w : ℕ) → write_spelling s ≡ o.Bits w → (c : Word) × (read_word w ≡ r.Command c) × Names s c
-read-written s w e = subst (λ (x : Spelt). Agree x (read_word w)) (spell-written s w e) (agree w)
+pub read-written : (s : Spelling) (w : ℕ) → write_spelling s ≡ Ok w → (c : Word) × (read_word w ≡ Ok c) × Names s c
+read-written s w e = subst (λ (x : Result Spelling WordFault). Agree x (read_word w)) (spell-written-list s w e) (agree w)
 
 -- RESERVED BITS. Two words that differ in them only are read alike, whatever is made of a row and the numbers of its fields.
 

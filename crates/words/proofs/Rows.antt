@@ -12,11 +12,12 @@ use Rattle.truth.proofs.Bools.{both_true}
 use Rattle.words.specs.declared.field.Field.{Field}
 use Rattle.words.specs.declared.field.Field.TheVariants.{Bits, Only, Signed}
 use Rattle.words.specs.declared.spelling.Spelling.{Spelling}
-use Rattle.words.specs.declared.writing.Written.TheVariants as o
 use Rattle.words.specs.Fields.{holds, int, total, values, fit, join}
 use Rattle.words.specs.Table.{Make, apply, spelling, numbers}
-use Rattle.words.specs.Words.{command, written, encoded}
+use Rattle.std.specs.Prelude.{Ok}
+use Rattle.words.specs.Words.{command, checked, encoded}
 use Rattle.words.proofs.Digits.{front, join-lt, values_join}
+use Rattle.words.proofs.Packing.{five-same}
 use Rattle.words.proofs.Table.{Proper, command-of}
 
 -- A SPELLING has five numbers, and those past a command's fields are 0.
@@ -59,10 +60,14 @@ front_at (f ∷ fs) (n ∷ ns) zero h = refl
 front_at (f ∷ fs) (n ∷ ns) (suc i) h = front_at fs ns i (both_true (holds f n) _ h).1
 
 pub spelling-by : (n : ℕ) (ns ms : List ℕ) → ((i : ℕ) → get_or ns i 0 ≡ get_or ms i 0) → spelling n ns ≡ spelling n ms
-spelling-by n ns ms h = λ i. record { 0 = n; 1 = h 0 i; 2 = h 1 i; 3 = h 2 i; 4 = h 3 i; 5 = h 4 i }
+spelling-by n ns ms h = λ i. record { command = n; numbers = h 0 i ∷ h 1 i ∷ h 2 i ∷ h 3 i ∷ h 4 i ∷ [] }
 
-pub spelling-back : (fs : List Field) (s : Spelling) → fit fs (numbers s) ≡ true → spelling s.0 (front fs (numbers s)) ≡ s
-spelling-back fs s h = spelling-by s.0 (front fs (numbers s)) (numbers s) (λ i. front_at fs (numbers s) i h)
+-- so a value of the type, which has five numbers, is its command's and numbers' spelling
+pub spelling-same : (s : Spelling) → length s.numbers ≡ 5 → spelling s.command s.numbers ≡ s
+spelling-same s l = λ i. record { command = s.command; numbers = five-same s.numbers l i }
+
+pub spelling-back : (fs : List Field) (s : Spelling) → fit fs (numbers s) ≡ true → spelling s.command (front fs (numbers s)) ≡ spelling s.command s.numbers
+spelling-back fs s h = spelling-by s.command (front fs (numbers s)) (numbers s) (λ i. front_at fs (numbers s) i h)
 
 -- WRITTEN, THEN READ.
 
@@ -80,23 +85,24 @@ lifted {n} {code} {fs} p = ⊎_elim by_byte (λ v. ⊎_elim (by_bits 1) (by_bits
     by_bits k e =
         (k * 2 ^ (30 - total fs), let m : n * 2 ^ 24 ≡ k * 2 ^ 30 = omega arith in m ∙ ap (λ (x : ℕ). k * x) (place 30 (total fs) p.narrow) ∙ omega arith)
 
-written-yes : (b : Bool) (n w : ℕ) → written b n ≡ o.Bits w → (b ≡ true) × (n ≡ w)
-unfolding written
-written-yes true n w h = (refl, cc)
-written-yes false n w h = let z : ◌≡◌ {A = ℕ} 0 1 = cc in absurd (omega arith)
+-- what is accepted was found to have a meaning
+pub checked-yes : {T : Type 0} (b : Bool) (x y : T) → checked b x ≡ Ok y → (b ≡ true) × (x ≡ y)
+unfolding checked
+checked-yes true x y h = (refl, cc)
+checked-yes false x y h = let z : ◌≡◌ {A = ℕ} 0 1 = cc in absurd (omega arith)
 
 -- the word w, into which a spelling was written
 pub record Holds (fs : List Field) (s : Spelling) (w : ℕ) : Type 0 where
   pub fits : fit fs (numbers s) ≡ true
-  pub own : command w ≡ s.0
+  pub own : command w ≡ s.command
   pub back : values fs w ≡ front fs (numbers s)
 
-pub encoded-holds : {code : ℕ} {fs : List Field} (s : Spelling) (w : ℕ) → Proper s.0 code fs → encoded fs s ≡ o.Bits w → Holds fs s w
+pub encoded-holds : {code : ℕ} {fs : List Field} (s : Spelling) (w : ℕ) → Proper s.command code fs → encoded fs s ≡ Ok w → Holds fs s w
 encoded-holds {code} {fs} s w p e = record {
   fits = known.0;
   own = rw (← known.1) (command-of p (join fs (numbers s)) (join-lt fs (numbers s)));
   back = rw (← known.1, (lifted p).1) (values_join fs (numbers s) (lifted p).0 p.narrow p.signed known.0);
 }
   where
-    known : (fit fs (numbers s) ≡ true) × (s.0 * 2 ^ 24 + join fs (numbers s) ≡ w)
-    known = written-yes _ _ w e
+    known : (fit fs (numbers s) ≡ true) × (s.command * 2 ^ 24 + join fs (numbers s) ≡ w)
+    known = checked-yes _ _ w e

@@ -1,30 +1,19 @@
 -- How the code keeps a row of the table, packs a word and cuts it apart. The meaning of a word does not rest on this page.
-use Rattle.std.specs.Prelude.{ℕ, ◌+◌, ◌*◌, ◌/◌, ◌%◌, ◌^◌, ◌≤◌, ◌<◌, Bool, true, ◌&&◌, List, [], ◌∷◌, ◌≡◌, leb}
+use Rattle.std.specs.Prelude.{ℕ, ◌+◌, ◌-◌, ◌*◌, ◌/◌, ◌%◌, ◌^◌, ◌≤◌, ◌<◌, Bool, true, ◌&&◌, List, [], ◌∷◌, ◌≡◌, leb, length, replicate, ◌++◌, Option, Some, None}
 use Rattle.words.specs.declared.field.Field.{Field}
 use Rattle.words.specs.declared.field.Field.TheVariants.{Bits, Only, Signed}
-use Rattle.words.specs.declared.field.Layout.{Layout}
-use Rattle.words.specs.declared.field.Layout.TheVariants.{NoCommand, None, One, Two, Three, Four, Five}
 use Rattle.words.specs.declared.telling.Piece.{Piece}
 use Rattle.words.specs.declared.writing.Packed.{Packed}
 use Rattle.words.specs.Fields.{width, value, total}
 use Rattle.words.specs.Table.{row, Found, none, some}
 
--- a command's fields as the code keeps them; no command has more than five
-abbrev pub laid : List Field → Layout
-laid [] = None
-laid (a ∷ []) = One a
-laid (a ∷ b ∷ []) = Two a b
-laid (a ∷ b ∷ c ∷ []) = Three a b c
-laid (a ∷ b ∷ c ∷ d ∷ []) = Four a b c d
-laid (a ∷ b ∷ c ∷ d ∷ e ∷ []) = Five a b c d e
-laid (a ∷ b ∷ c ∷ d ∷ e ∷ f ∷ fs) = NoCommand
+-- a command's fields as the code keeps them: five, the last ones of no bits where the command has fewer
+abbrev pub filled : List Field → List Field
+filled fs = fs ++ replicate (5 - length fs) (Bits 0)
 
-abbrev pub layout_of : Found → Layout
-layout_of none = NoCommand
-layout_of (some (row code fs make)) = laid fs
-
-abbrev pub five : Field → Field → Field → Field → Field → List Field
-five a b c d e = a ∷ b ∷ c ∷ d ∷ e ∷ []
+abbrev pub layout_of : Found → Option (List Field)
+layout_of none = None
+layout_of (some (row code fs make)) = Some (filled fs)
 
 -- PACKING.
 

@@ -101,9 +101,13 @@ apply (Only k m ∷ fs) c (n ∷ ns) = apply fs (c n) ns
 apply (Signed k ∷ fs) c [] = apply fs (c (int 0)) []
 apply (Signed k ∷ fs) c (n ∷ ns) = apply fs (c (int n)) ns
 
+-- a list's first five numbers, 0 where it has fewer
+abbrev pub five : List ℕ → List ℕ
+five ns = get_or ns 0 0 ∷ get_or ns 1 0 ∷ get_or ns 2 0 ∷ get_or ns 3 0 ∷ get_or ns 4 0 ∷ []
+
 -- A SPELLING is a command as plain numbers: the command's number and five more, 0 for a field that the command does not have.
 abbrev pub spelling : ℕ → List ℕ → Spelling
-spelling code ns = record { 0 = code; 1 = get_or ns 0 0; 2 = get_or ns 1 0; 3 = get_or ns 2 0; 4 = get_or ns 3 0; 5 = get_or ns 4 0 }
+spelling code ns = record { command = code; numbers = five ns }
 
 abbrev pub numbers : Spelling → List ℕ
-numbers s = s.1 ∷ s.2 ∷ s.3 ∷ s.4 ∷ s.5 ∷ []
+numbers s = five s.numbers

@@ -1,8 +1,8 @@
 // The fields of the commands: how wide each is, and which of its numbers have a meaning.
-ghost use Rattle.std.specs.Prelude.{◌≡◌, ◌%◌, ◌^◌, ◌<◌};
+ghost use Rattle.std.specs.Prelude.{◌≡◌, ◌%◌, ◌^◌, ◌<◌, ◌≤◌};
 ghost use Rattle.words.specs.Fields.{meant, means, width, holds_signed, holds};
 ghost use Rattle.words.specs.Table.{row_of};
-ghost use Rattle.words.specs.Layout.{layout_of};
+ghost use Rattle.words.specs.Layout.{layout_of, filled};
 
 // What the numbers of a field name, where not every one has a meaning.
 #[derive(Clone, Copy)]
@@ -24,105 +24,103 @@ pub enum Field {
     Signed(u32),
 }
 
-// The fields of a command from the high bits down.
-#[derive(Clone, Copy)]
-pub enum Layout {
-    NoCommand,
-    None,
-    One(Field),
-    Two(Field, Field),
-    Three(Field, Field, Field),
-    Four(Field, Field, Field, Field),
-    Five(Field, Field, Field, Field, Field),
+// The fields of a command that has these from the high bits down. Those that it does not have come last and have no bits.
+fn laid<const N: usize>(own: [Field; N]) -> [Field; 5]
+    requires { N ≤ 5 }
+    ensures { result ≡ filled own.entry }
+{
+    let mut fields = [Field::Bits(0); 5];
+    fields[..N].copy_from_slice(&own);
+    fields
 }
 
-pub fn fields_of(command: u32) -> Layout
+pub fn fields_of(command: u32) -> Option<[Field; 5]>
     ensures { result ≡ layout_of (row_of command) }
 {
-    match command {
-        0x00 => Layout::None,
-        0x01 => Layout::One(Field::Bits(22)),
-        0x02 => Layout::Three(Field::Bits(8), Field::Bits(8), Field::Bits(8)),
-        0x03 => Layout::One(Field::Bits(8)),
-        0x04 => Layout::Three(Field::Bits(8), Field::Bits(8), Field::Bits(8)),
-        0x05 => Layout::One(Field::Bits(5)),
-        0x06 => Layout::One(Field::Bits(7)),
-        0x07 => Layout::Three(
+    Some(match command {
+        0x00 => laid([]),
+        0x01 => laid([Field::Bits(22)]),
+        0x02 => laid([Field::Bits(8), Field::Bits(8), Field::Bits(8)]),
+        0x03 => laid([Field::Bits(8)]),
+        0x04 => laid([Field::Bits(8), Field::Bits(8), Field::Bits(8)]),
+        0x05 => laid([Field::Bits(5)]),
+        0x06 => laid([Field::Bits(7)]),
+        0x07 => laid([
             Field::Only(5, Meaning::Format),
             Field::Bits(10),
             Field::Bits(9),
-        ),
-        0x08 => Layout::Five(
+        ]),
+        0x08 => laid([
             Field::Bits(1),
             Field::Bits(1),
             Field::Bits(1),
             Field::Bits(9),
             Field::Bits(9),
-        ),
-        0x09 => Layout::Two(Field::Only(3, Meaning::Function), Field::Bits(8)),
-        0x0A => Layout::Three(
+        ]),
+        0x09 => laid([Field::Only(3, Meaning::Function), Field::Bits(8)]),
+        0x0A => laid([
             Field::Only(4, Meaning::Function),
             Field::Bits(8),
             Field::Bits(8),
-        ),
-        0x0B => Layout::Two(
+        ]),
+        0x0B => laid([
             Field::Only(3, Meaning::BlendFactor),
             Field::Only(3, Meaning::BlendFactor),
-        ),
-        0x0C => Layout::Two(
+        ]),
+        0x0C => laid([
             Field::Only(3, Meaning::StencilAction),
             Field::Only(3, Meaning::StencilAction),
-        ),
-        0x0D => Layout::One(Field::Bits(13)),
-        0x0E => Layout::One(Field::Bits(12)),
-        0x0F => Layout::One(Field::Bits(8)),
-        0x10 => Layout::One(Field::Bits(8)),
-        0x11 => Layout::One(Field::Bits(8)),
-        0x12 => Layout::One(Field::Bits(8)),
-        0x13 => Layout::One(Field::Bits(8)),
-        0x14 => Layout::One(Field::Bits(1)),
-        0x15 => Layout::One(Field::Signed(17)),
-        0x16 => Layout::One(Field::Signed(17)),
-        0x17 => Layout::One(Field::Signed(24)),
-        0x18 => Layout::One(Field::Signed(17)),
-        0x19 => Layout::One(Field::Signed(17)),
-        0x1A => Layout::One(Field::Signed(24)),
-        0x1B => Layout::Two(Field::Bits(11), Field::Bits(11)),
-        0x1C => Layout::Two(
+        ]),
+        0x0D => laid([Field::Bits(13)]),
+        0x0E => laid([Field::Bits(12)]),
+        0x0F => laid([Field::Bits(8)]),
+        0x10 => laid([Field::Bits(8)]),
+        0x11 => laid([Field::Bits(8)]),
+        0x12 => laid([Field::Bits(8)]),
+        0x13 => laid([Field::Bits(8)]),
+        0x14 => laid([Field::Bits(1)]),
+        0x15 => laid([Field::Signed(17)]),
+        0x16 => laid([Field::Signed(17)]),
+        0x17 => laid([Field::Signed(24)]),
+        0x18 => laid([Field::Signed(17)]),
+        0x19 => laid([Field::Signed(17)]),
+        0x1A => laid([Field::Signed(24)]),
+        0x1B => laid([Field::Bits(11), Field::Bits(11)]),
+        0x1C => laid([
             Field::Only(12, Meaning::ScissorSide),
             Field::Only(12, Meaning::ScissorSide),
-        ),
-        0x1D => Layout::One(Field::Bits(16)),
-        0x1E => Layout::One(Field::Bits(16)),
-        0x1F => Layout::One(Field::Only(4, Meaning::Primitive)),
-        0x20 => Layout::Four(
+        ]),
+        0x1D => laid([Field::Bits(16)]),
+        0x1E => laid([Field::Bits(16)]),
+        0x1F => laid([Field::Only(4, Meaning::Primitive)]),
+        0x20 => laid([
             Field::Bits(1),
             Field::Bits(1),
             Field::Bits(1),
             Field::Bits(1),
-        ),
-        0x21 => Layout::None,
-        0x22 => Layout::None,
-        0x23 => Layout::None,
-        0x24 => Layout::None,
-        0x25 => Layout::One(Field::Bits(1)),
-        0x26 => Layout::Three(Field::Bits(1), Field::Bits(1), Field::Bits(1)),
-        0x27 => Layout::One(Field::Only(3, Meaning::Frac)),
-        0x28 => Layout::Two(Field::Bits(2), Field::Bits(2)),
-        0x29 => Layout::Two(Field::Bits(2), Field::Bits(2)),
-        0x2A => Layout::One(Field::Bits(22)),
-        0x2B => Layout::One(Field::Signed(17)),
-        0x2C => Layout::One(Field::Signed(17)),
-        0x2D => Layout::None,
-        0x40 => Layout::Two(Field::Signed(15), Field::Signed(15)),
-        0x80 => Layout::Four(
+        ]),
+        0x21 => laid([]),
+        0x22 => laid([]),
+        0x23 => laid([]),
+        0x24 => laid([]),
+        0x25 => laid([Field::Bits(1)]),
+        0x26 => laid([Field::Bits(1), Field::Bits(1), Field::Bits(1)]),
+        0x27 => laid([Field::Only(3, Meaning::Frac)]),
+        0x28 => laid([Field::Bits(2), Field::Bits(2)]),
+        0x29 => laid([Field::Bits(2), Field::Bits(2)]),
+        0x2A => laid([Field::Bits(22)]),
+        0x2B => laid([Field::Signed(17)]),
+        0x2C => laid([Field::Signed(17)]),
+        0x2D => laid([]),
+        0x40 => laid([Field::Signed(15), Field::Signed(15)]),
+        0x80 => laid([
             Field::Bits(9),
             Field::Bits(9),
             Field::Bits(5),
             Field::Bits(7),
-        ),
-        _ => Layout::NoCommand,
-    }
+        ]),
+        _ => return None,
+    })
 }
 
 fn is_primitive(n: u32) -> bool

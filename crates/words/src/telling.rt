@@ -2,20 +2,13 @@
 // its caller only as long as it has a single one: the engine, which runs it for every word.
 ghost use Rattle.std.specs.Prelude.{◌≡◌, ◌+◌, ◌^◌, ◌≤◌, ◌<◌};
 ghost use Rattle.words.specs.Fields.{all_mean, extended, value, values};
-ghost use Rattle.words.specs.Layout.{Apart, Cuttable, Digit, Inside, five};
+ghost use Rattle.words.specs.Layout.{Apart, Cuttable, Digit, Inside};
 ghost use Rattle.words.specs.Table.{numbers, spelling};
 ghost use Rattle.words.specs.Words.{command, decoded, spell_word};
 
-use crate::field::{Field, Layout, fields_of, is_meaningful, low_bits, power, width_of};
+use crate::fault::{WordFault, checked};
+use crate::field::{Field, fields_of, is_meaningful, low_bits, power, width_of};
 use crate::spelling::Spelling;
-
-// Numbers 0, 11 and 12 of document 01's table.
-#[derive(Clone, Copy)]
-pub enum Spelt {
-    Fields(Spelling),
-    NoCommand,
-    NoMeaning,
-}
 
 // A field's number; the field's bits and those below it are `used` bits.
 #[derive(Clone, Copy)]
@@ -66,64 +59,45 @@ fn cut(w: u32, field: Field, low: u32) -> Piece
     let bits = low_bits(w >> low, width);
     let number = value_of(field, bits);
     let used = width + low;
-    Piece {
-        number: number,
-        used: used,
-    }
+    Piece { number, used }
 }
 
-// The numbers of five fields. Those that a command does not have come last and have no bits.
-fn cut_all(number: u32, w: u32, a: Field, b: Field, c: Field, d: Field, e: Field) -> Spelling
-    requires { Cuttable (five a b c d e) }
-    ensures { result ≡ spelling number (values (five a b c d e) w) }
+// The numbers of a command's fields.
+fn cut_all(w: u32, fields: [Field; 5]) -> [u32; 5]
+    requires { Cuttable fields }
+    ensures { result ≡ values fields w }
 {
-    let fifth = cut(w, e, 0);
-    let fourth = cut(w, d, fifth.used);
-    let third = cut(w, c, fourth.used);
-    let second = cut(w, b, third.used);
-    let first = cut(w, a, second.used);
-    Spelling(
-        number,
+    let fifth = cut(w, fields[4], 0);
+    let fourth = cut(w, fields[3], fifth.used);
+    let third = cut(w, fields[2], fourth.used);
+    let second = cut(w, fields[1], third.used);
+    let first = cut(w, fields[0], second.used);
+    [
         first.number,
         second.number,
         third.number,
         fourth.number,
         fifth.number,
-    )
+    ]
 }
 
-fn are_meaningful(s: Spelling, a: Field, b: Field, c: Field, d: Field, e: Field) -> bool
-    ensures { result ≡ all_mean (five a b c d e) (numbers s) }
+fn are_meaningful(fields: [Field; 5], numbers: [u32; 5]) -> bool
+    ensures { result ≡ all_mean fields numbers }
 {
-    is_meaningful(a, s.1)
-        & (is_meaningful(b, s.2)
-            & (is_meaningful(c, s.3) & (is_meaningful(d, s.4) & is_meaningful(e, s.5))))
+    is_meaningful(fields[0], numbers[0])
+        & (is_meaningful(fields[1], numbers[1])
+            & (is_meaningful(fields[2], numbers[2])
+                & (is_meaningful(fields[3], numbers[3]) & is_meaningful(fields[4], numbers[4]))))
 }
 
-#[tactic(auto, unfolding(crate::specs::Words::spelt))]
-fn spell_fields(number: u32, w: u32, a: Field, b: Field, c: Field, d: Field, e: Field) -> Spelt
-    requires { Cuttable (five a b c d e) }
-    ensures { result ≡ decoded number (five a b c d e) w }
-{
-    let s = cut_all(number, w, a, b, c, d, e);
-    if are_meaningful(s, a, b, c, d, e) {
-        return Spelt::Fields(s);
-    }
-    Spelt::NoMeaning
-}
-
-pub fn spell_bits(w: u32) -> Spelt
+pub fn spell_bits(w: u32) -> Result<Spelling, WordFault>
     ensures { result ≡ spell_word w }
 {
-    let no = Field::Bits(0);
-    let number = command_of(w);
-    match fields_of(number) {
-        Layout::NoCommand => Spelt::NoCommand,
-        Layout::None => spell_fields(number, w, no, no, no, no, no),
-        Layout::One(a) => spell_fields(number, w, a, no, no, no, no),
-        Layout::Two(a, b) => spell_fields(number, w, a, b, no, no, no),
-        Layout::Three(a, b, c) => spell_fields(number, w, a, b, c, no, no),
-        Layout::Four(a, b, c, d) => spell_fields(number, w, a, b, c, d, no),
-        Layout::Five(a, b, c, d, e) => spell_fields(number, w, a, b, c, d, e),
-    }
+    let command = command_of(w);
+    let fields = fields_of(command).ok_or(WordFault::NoCommand)?;
+    let numbers = cut_all(w, fields);
+    checked(
+        are_meaningful(fields, numbers),
+        Spelling { command, numbers },
+    )
 }

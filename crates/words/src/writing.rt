@@ -2,19 +2,12 @@
 ghost use Rattle.std.specs.Prelude.{◌≡◌, ◌≤◌};
 ghost use Rattle.words.specs.Fields.{fit, join, total};
 ghost use Rattle.words.specs.Table.{numbers};
-ghost use Rattle.words.specs.Layout.{Laid, Room, five};
+ghost use Rattle.words.specs.Layout.{Laid, Room};
 ghost use Rattle.words.specs.Words.{encoded, write_spelling};
 
-use crate::field::{Field, Layout, fields_of, is_held, low_bits, power, width_of};
+use crate::fault::{WordFault, checked};
+use crate::field::{Field, fields_of, is_held, low_bits, power, width_of};
 use crate::spelling::Spelling;
-
-// Numbers 0, 11 and 12 of document 01's table.
-#[derive(Clone, Copy)]
-pub enum Written {
-    Bits(u32),
-    NoCommand,
-    NoMeaning,
-}
 
 // The lowest bits of a word, `used` of them.
 #[derive(Clone, Copy)]
@@ -32,58 +25,39 @@ fn pack(low: Packed, field: Field, n: u32) -> Packed
     let lifted = own * power(low.used);
     let bits = lifted + low.bits;
     let used = width + low.used;
-    Packed {
-        bits: bits,
-        used: used,
-    }
+    Packed { bits, used }
 }
 
-// The numbers laid into five fields from the high bits down. Those that a command does not have come last and have no bits.
-fn pack_all(s: Spelling, a: Field, b: Field, c: Field, d: Field, e: Field) -> u32
-    requires { total (five a b c d e) ≤ 30 }
-    ensures { result ≡ join (five a b c d e) (numbers s) }
+// The numbers laid into the fields from the high bits down.
+fn pack_all(fields: [Field; 5], numbers: [u32; 5]) -> u32
+    requires { total fields ≤ 30 }
+    ensures { result ≡ join fields numbers }
 {
     let none = Packed { bits: 0, used: 0 };
-    let one = pack(none, e, s.5);
-    let two = pack(one, d, s.4);
-    let three = pack(two, c, s.3);
-    let four = pack(three, b, s.2);
-    let five = pack(four, a, s.1);
+    let one = pack(none, fields[4], numbers[4]);
+    let two = pack(one, fields[3], numbers[3]);
+    let three = pack(two, fields[2], numbers[2]);
+    let four = pack(three, fields[1], numbers[1]);
+    let five = pack(four, fields[0], numbers[0]);
     five.bits
 }
 
-fn is_fit(s: Spelling, a: Field, b: Field, c: Field, d: Field, e: Field) -> bool
-    requires { total (five a b c d e) ≤ 30 }
-    ensures { result ≡ fit (five a b c d e) (numbers s) }
+fn is_fit(fields: [Field; 5], numbers: [u32; 5]) -> bool
+    requires { total fields ≤ 30 }
+    ensures { result ≡ fit fields numbers }
 {
-    is_held(a, s.1) & (is_held(b, s.2) & (is_held(c, s.3) & (is_held(d, s.4) & is_held(e, s.5))))
+    is_held(fields[0], numbers[0])
+        & (is_held(fields[1], numbers[1])
+            & (is_held(fields[2], numbers[2])
+                & (is_held(fields[3], numbers[3]) & is_held(fields[4], numbers[4]))))
 }
 
-#[tactic(auto, unfolding(crate::specs::Words::written))]
-fn encode(s: Spelling, a: Field, b: Field, c: Field, d: Field, e: Field) -> Written
-    requires { (s.0 ≤ 128) × (total (five a b c d e) ≤ 30) }
-    ensures { result ≡ encoded (five a b c d e) s }
-{
-    if is_fit(s, a, b, c, d, e) {
-        let top = s.0 * 0x1000000;
-        let bits = top + pack_all(s, a, b, c, d, e);
-        return Written::Bits(bits);
-    }
-    Written::NoMeaning
-}
-
-pub fn write_spelling(s: Spelling) -> Written
+pub fn write_spelling(s: Spelling) -> Result<u32, WordFault>
     ensures { result ≡ write_spelling s }
 {
-    let no = Field::Bits(0);
-    let fields = fields_of(s.0);
-    match fields {
-        Layout::NoCommand => Written::NoCommand,
-        Layout::None => encode(s, no, no, no, no, no),
-        Layout::One(a) => encode(s, a, no, no, no, no),
-        Layout::Two(a, b) => encode(s, a, b, no, no, no),
-        Layout::Three(a, b, c) => encode(s, a, b, c, no, no),
-        Layout::Four(a, b, c, d) => encode(s, a, b, c, d, no),
-        Layout::Five(a, b, c, d, e) => encode(s, a, b, c, d, e),
-    }
+    let fields = fields_of(s.command).ok_or(WordFault::NoCommand)?;
+    checked(
+        is_fit(fields, s.numbers),
+        s.command * 0x1000000 + pack_all(fields, s.numbers),
+    )
 }

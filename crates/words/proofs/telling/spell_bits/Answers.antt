@@ -1,31 +1,24 @@
-use mathlib.Core.Path.{sym}
+use mathlib.Core.Path.{◌≡◌, sym}
+use lib.ListN.{length}
+use native.Mathlib.Omega.{arith}
+use Rattle.std.proofs.Common.{None, Some}
+use Rattle.std.proofs.lemmas.Result.{err_from_is_err_and}
+use Rattle.words.specs.declared.fault.WordFault.TheVariants.{NoCommand}
+use Rattle.words.specs.Layout.{layout_of}
+use Rattle.words.specs.Table.{row_of}
 use Rattle.words.proofs.Cutting.{telling}
 use Rattle.words.proofs.telling.spell_bits.Goals as goal
 
-pub returns-in-NoCommand : goal.returns-in-NoCommand
-returns-in-NoCommand c =
-    sym (telling c.args.w c.command_of-number.ensures c.fields_of.ensures c.in-NoCommand.is)
+pub returns-in_err-fields : goal.returns-in_err-fields
+returns-in_err-fields c =
+    let n : layout_of (row_of c.command_of-command.result) ≡ None = grind arith in
+    let k : c.in_err-fields.field-0.0 ≡ NoCommand = grind arith in
+    let p = err_from_is_err_and c.from_residual.result c.from_residual.ensures.1 in
+    rw (p.1, p.2, k) (sym (telling c.args.w c.command_of-command.ensures n))
 
-pub returns-in-None : goal.returns-in-None
-returns-in-None c =
-    rw c.spell_fields.ensures (telling c.args.w c.command_of-number.ensures c.fields_of.ensures c.in-None.is).tells
-
-pub returns-in-One : goal.returns-in-One
-returns-in-One c =
-    rw c.spell_fields-in-One.ensures (telling c.args.w c.command_of-number.ensures c.fields_of.ensures c.in-One.is).tells
-
-pub returns-in-Two : goal.returns-in-Two
-returns-in-Two c =
-    rw c.spell_fields-in-Two.ensures (telling c.args.w c.command_of-number.ensures c.fields_of.ensures c.in-Two.is).tells
-
-pub returns-in-Three : goal.returns-in-Three
-returns-in-Three c =
-    rw c.spell_fields-in-Three.ensures (telling c.args.w c.command_of-number.ensures c.fields_of.ensures c.in-Three.is).tells
-
-pub returns-in-Four : goal.returns-in-Four
-returns-in-Four c =
-    rw c.spell_fields-in-Four.ensures (telling c.args.w c.command_of-number.ensures c.fields_of.ensures c.in-Four.is).tells
-
-pub returns-in-Five : goal.returns-in-Five
-returns-in-Five c =
-    rw c.spell_fields-in-Five.ensures (telling c.args.w c.command_of-number.ensures c.fields_of.ensures c.in-Five.is).tells
+pub returns : goal.returns
+returns c =
+    let n : layout_of (row_of c.command_of-command.result) ≡ Some c.in_ok-fields.fields = grind arith in
+    let t = telling c.args.w c.command_of-command.ensures n in
+    rw (c.checked.ensures, c.are_meaningful.ensures, c.cut_all-numbers.ensures)
+    (t.tells (let l : length c.cut_all-numbers.result ≡ 5 = grind arith in rw (← c.cut_all-numbers.ensures) l))

@@ -1,49 +1,29 @@
-use mathlib.Core.List.{[], ◌∷◌}
-use mathlib.Core.Path.{refl, sym, ◌∙◌}
-use Rattle.words.proofs.Packing.{writing, encoded-padded}
+use mathlib.Core.Path.{◌≡◌, sym}
+use native.Mathlib.Omega.{arith}
+use Rattle.std.proofs.Common.{None, Some}
+use Rattle.std.proofs.lemmas.Result.{err_from_is_err_and}
+use Rattle.words.specs.declared.fault.WordFault.TheVariants.{NoCommand}
+use Rattle.words.specs.Layout.{layout_of}
+use Rattle.words.specs.Table.{row_of}
+use Rattle.words.proofs.Digits.{join-fits}
+use Rattle.words.proofs.Packing.{writing}
 use Rattle.words.proofs.writing.write_spelling.Goals as goal
 
-pub returns-in-NoCommand : goal.returns-in-NoCommand
-returns-in-NoCommand c =
-    sym (writing c.args.s (sym c.fields_of-fields.ensures ∙ c.in-NoCommand.is))
+pub returns-in_err-fields : goal.returns-in_err-fields
+returns-in_err-fields c =
+    let n : layout_of (row_of c.args.s.command) ≡ None = grind arith in
+    let k : c.in_err-fields.field-0.0 ≡ NoCommand = grind arith in
+    let p = err_from_is_err_and c.from_residual.result c.from_residual.ensures.1 in
+    rw (p.1, p.2, k) (sym (writing c.args.s n))
 
-pub returns-in-None : goal.returns-in-None
-returns-in-None c =
-    let s = c.args.s in
-    let w = writing s (sym c.fields_of-fields.ensures ∙ c.in-None.is) in
-    rw (c.encode.ensures, w.writes) (encoded-padded [] 5 s refl)
+pub overflow_add-s : goal.overflow_add-s
+overflow_add-s c =
+    let n : layout_of (row_of c.args.s.command) ≡ Some c.in_ok-fields.fields = grind arith in
+    let w = writing c.args.s n in
+    rw c.pack_all.ensures (omega (arith, join-fits c.in_ok-fields.fields c.args.s.numbers w.narrow, w.low))
 
-pub returns-in-One : goal.returns-in-One
-returns-in-One c =
-    let s = c.args.s in
-    let told = c.in-One in
-    let w = writing s (sym c.fields_of-fields.ensures ∙ told.is) in
-    rw (c.encode-in-One.ensures, w.writes) (encoded-padded (told.a ∷ []) 4 s refl)
-
-pub returns-in-Two : goal.returns-in-Two
-returns-in-Two c =
-    let s = c.args.s in
-    let told = c.in-Two in
-    let w = writing s (sym c.fields_of-fields.ensures ∙ told.is) in
-    rw (c.encode-in-Two.ensures, w.writes) (encoded-padded (told.a ∷ told.b ∷ []) 3 s refl)
-
-pub returns-in-Three : goal.returns-in-Three
-returns-in-Three c =
-    let s = c.args.s in
-    let told = c.in-Three in
-    let w = writing s (sym c.fields_of-fields.ensures ∙ told.is) in
-    rw (c.encode-in-Three.ensures, w.writes) (encoded-padded (told.a ∷ told.b ∷ told.c ∷ []) 2 s refl)
-
-pub returns-in-Four : goal.returns-in-Four
-returns-in-Four c =
-    let s = c.args.s in
-    let told = c.in-Four in
-    let w = writing s (sym c.fields_of-fields.ensures ∙ told.is) in
-    rw (c.encode-in-Four.ensures, w.writes) (encoded-padded (told.a ∷ told.b ∷ told.c ∷ told.d ∷ []) 1 s refl)
-
-pub returns-in-Five : goal.returns-in-Five
-returns-in-Five c =
-    let s = c.args.s in
-    let told = c.in-Five in
-    let w = writing s (sym c.fields_of-fields.ensures ∙ told.is) in
-    rw (c.encode-in-Five.ensures, w.writes) (encoded-padded (told.a ∷ told.b ∷ told.c ∷ told.d ∷ told.e ∷ []) 0 s refl)
+pub returns : goal.returns
+returns c =
+    let n : layout_of (row_of c.args.s.command) ≡ Some c.in_ok-fields.fields = grind arith in
+    let w = writing c.args.s n in
+    rw (c.checked.ensures, c.is_fit.ensures, c.pack_all.ensures) (sym (w.writes (grind arith)))
