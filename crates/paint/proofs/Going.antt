@@ -6,6 +6,7 @@ use Prim.Native.Nat.{ℕ, ◌+◌, ◌<◌}
 use Rattle.action.specs.declared.Action.{Action}
 use Rattle.engine.specs.Advance.{Advances, Spent, heard, then}
 use Rattle.engine.specs.Run.{Ran, run}
+use Rattle.engine.specs.declared.handles.Handles.{Handles}
 use Rattle.engine.specs.declared.kept.Engine.{Engine}
 use Rattle.engine.specs.declared.run.Advanced.{Advanced}
 use Rattle.engine.specs.declared.run.Find.TheVariants as f
@@ -14,15 +15,15 @@ use Rattle.paint.specs.Actions.{AllBands, Keeps, Rooms, kept_up_to}
 use Rattle.paint.proofs.Folds.{keeps-list}
 
 -- the actions that a run gives from a state on
-abbrev pub actions_from : List ℕ → ℕ → ℕ → Engine → List ℕ → List Action
+abbrev pub actions_from : List ℕ → ℕ → ℕ → Engine → Handles → List Action
 actions_from list memory left engine handles = (run list memory left (record { engine = engine; handles = handles })).actions
 
 -- none where no word is allowed
-pub none_allowed : (list : List ℕ) (memory : ℕ) (engine : Engine) (handles : List ℕ) → actions_from list memory 0 engine handles ≡ []
+pub none_allowed : (list : List ℕ) (memory : ℕ) (engine : Engine) (handles : Handles) → actions_from list memory 0 engine handles ≡ []
 unfolding run
 none_allowed list memory engine handles = refl
 
-module _ {list : List ℕ} {memory left : ℕ} {engine : Engine} {handles after : List ℕ} {a : Advanced}
+module _ {list : List ℕ} {memory left : ℕ} {engine : Engine} {handles after : Handles} {a : Advanced}
     (went : Advances list memory left true (record { engine = engine; handles = handles }) a after) where
   pub next-action :
       (action : Action) → a.find ≡ f.Drew action → actions_from list memory left engine handles ≡ action ∷ actions_from list memory a.left a.engine after
@@ -38,7 +39,7 @@ module _ {list : List ℕ} {memory left : ℕ} {engine : Engine} {handles after 
   fewer action e = (rw e at went.spent).1
 
 -- what holds at each turn while actions are gathered
-pub record Gathering (list : List ℕ) (memory : ℕ) (whole : List Action) (handles numbers places bands : List ℕ) (engine : Engine) (left count : ℕ) : Type 0 where
+pub record Gathering (list : List ℕ) (memory : ℕ) (whole : List Action) (handles : Handles) (numbers places bands : List ℕ) (engine : Engine) (left count : ℕ) : Type 0 where
   pub rooms : Rooms numbers places bands
   pub banded : AllBands numbers places bands count
   pub parts : whole ≡ kept_up_to numbers places count ++ actions_from list memory left engine handles

@@ -38,7 +38,7 @@ pub fn gather(
     requires { WithinLimits list.now memory × Rooms numbers.old places.old bands.old }
     ensures { Gathers list.now memory limit result numbers.new places.new bands.new }
 {
-    let mut handles = [0; engine::SETTINGS];
+    let mut handles = engine::Handles::unset();
     let mut engine = Engine::start();
     let mut left = limit;
     let mut count: usize = 0;

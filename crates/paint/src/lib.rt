@@ -102,7 +102,7 @@ fn draw_list(
         (pixel_in picture.old tags.old alpha.old stencil.old)
         (pixel_in picture.new tags.new alpha.new stencil.new) }
 {
-    let mut handles = [0; engine::SETTINGS];
+    let mut handles = engine::Handles::unset();
     let mut engine = Engine::start();
     let mut left = limit;
     while 0 < left {

@@ -2,8 +2,8 @@
 use mathlib.Core.Bool.{Bool, true, false, ◌||◌}
 use mathlib.Core.List.{List}
 use mathlib.Core.Path.{◌≡◌, refl, sym, ◌∙◌, ap, subst}
-use Rattle.std.specs.Prelude.{Option, Some, None}
-use Prim.Native.Nat.{ℕ, ◌+◌, ◌<◌, ◌≤◌}
+use Rattle.std.specs.Prelude.{Option, Some, None, is_some}
+use Prim.Native.Nat.{◌+◌, ◌<◌, ◌≤◌}
 use native.Mathlib.Omega.{arith}
 use lib.ListN.{length}
 use Rattle.truth.proofs.Bools.{never}
@@ -14,32 +14,32 @@ use Rattle.action.proofs.Sameness.{action_tells}
 use Rattle.engine.specs.Running.{actions_left}
 use Rattle.engine.specs.declared.running.Run.{Run}
 use Rattle.std.specs.Iterator.{YieldsFirst}
-use Rattle.repaint.specs.Rows.{is_drawn, passed, with_rest}
+use Rattle.repaint.specs.Rows.{passed, with_rest}
 
 module _ (a : Bool) (find : Option Action) (rest : List Action) where
   -- a list does not grow
-  pub not-longer : (a ≡ true → is_drawn find ≡ true) → length (passed a find rest) ≤ length (with_rest find rest)
-  unfolding is_drawn passed with_rest
+  pub not-longer : (a ≡ true → is_some find ≡ true) → length (passed a find rest) ≤ length (with_rest find rest)
+  unfolding passed with_rest
   not-longer = go a find
     where
-      go : (a : Bool) (find : Option Action) → (a ≡ true → is_drawn find ≡ true) → length (passed a find rest) ≤ length (with_rest find rest)
+      go : (a : Bool) (find : Option Action) → (a ≡ true → is_some find ≡ true) → length (passed a find rest) ≤ length (with_rest find rest)
       go true (Some x) d = omega arith
       go true None d = never (d refl)
       go false find d = omega arith
 
   -- and one that goes on is shorter
-  pub shorter : a ≡ true → is_drawn find ≡ true → length (passed a find rest) < length (with_rest find rest)
-  unfolding is_drawn passed with_rest
+  pub shorter : a ≡ true → is_some find ≡ true → length (passed a find rest) < length (with_rest find rest)
+  unfolding passed with_rest
   shorter = go a find
     where
-      go : (a : Bool) (find : Option Action) → a ≡ true → is_drawn find ≡ true → length (passed a find rest) < length (with_rest find rest)
+      go : (a : Bool) (find : Option Action) → a ≡ true → is_some find ≡ true → length (passed a find rest) < length (with_rest find rest)
       go true (Some x) t d = omega arith
       go true None t d = never d
       go false find t d = never t
 
 -- where one of two goes on, less is ahead of both
 pub less-ahead :
-    (a b : Bool) (old new : Option Action) (p q : List Action) → a || b ≡ true → (a ≡ true → is_drawn old ≡ true) → (b ≡ true → is_drawn new ≡ true) →
+    (a b : Bool) (old new : Option Action) (p q : List Action) → a || b ≡ true → (a ≡ true → is_some old ≡ true) → (b ≡ true → is_some new ≡ true) →
     length (passed a old p) + length (passed b new q) < length (with_rest old p) + length (with_rest new q)
 less-ahead true b old new p q e d f = omega (arith, shorter true old p refl (d refl), not-longer b new q f)
 less-ahead false true old new p q e d f = omega (arith, not-longer false old p d, shorter true new q refl (f refl))

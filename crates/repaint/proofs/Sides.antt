@@ -3,21 +3,20 @@ use mathlib.Core.Bool.{Bool, true, false, not, ◌&&◌, ◌||◌, and-false, an
 use mathlib.Core.List.{List, [], ◌∷◌, cons-ne-nil, head-eq_of_cons-eq, tail-eq_of_cons-eq}
 use mathlib.Core.Logic.{◌⊎◌, inl, inr, ⊎_elim}
 use mathlib.Core.Path.{◌≡◌, refl, sym, ◌∙◌, ap, subst}
-use Rattle.std.specs.Prelude.{Option, Some, None, min, max}
+use Rattle.std.specs.Prelude.{Option, Some, None, is_some, min, max}
 use Prim.Native.Nat.{ℕ, ◌<◌, ◌≤◌}
 use native.Mathlib.Omega.{arith}
 use lib.Dec.{eqb, leb, ltb}
 use lib.ListN.{length, get_or}
 use borrow.Author.Tests.{eqb-false, eqb-true, le-leb, leb-false, leb-true, lt-ltb, ltb-true}
 use Rattle.truth.proofs.Bools.{both_true, never, not_so}
-use Rattle.action.specs.Same.{Tells}
 use Rattle.action.specs.declared.Action.{Action}
 use Rattle.shape.specs.Cover.{outline_of}
 use Rattle.shape.specs.Reach.{Bands}
 use Rattle.shape.proofs.Reaching.{row-by-none}
 use Rattle.units.specs.Units.{pixel_at, tallest, widest}
 use Rattle.repaint.specs.Repaint.{reaching}
-use Rattle.repaint.specs.Rows.{Alike, Bounded, Compares, Passes, Stood, Touches, Turns, beside, is_drawn, later, meets_row, pace_of, passed, reaches_at, standing, with_rest}
+use Rattle.repaint.specs.Rows.{Alike, Bounded, Compares, Passes, Stood, Touches, Turns, beside, later, meets_row, pace_of, passed, reaches_at, standing, with_rest}
 use Rattle.repaint.specs.declared.compare.Pace.{Pace}
 
 -- ONE ROW, one action
@@ -62,9 +61,9 @@ both-met width y None None p q apart r s e = apart refl
 
 -- a list that goes on past what tells nothing of a row
 past :
-    (width y : ℕ) (go : Bool) (find : Option Action) (p : List Action) → (go ≡ true → is_drawn find ≡ true) → (meets_row find width y && go) ≡ false →
+    (width y : ℕ) (go : Bool) (find : Option Action) (p : List Action) → (go ≡ true → is_some find ≡ true) → (meets_row find width y && go) ≡ false →
     reaching width y (passed go find p) ≡ reaching width y (with_rest find p)
-unfolding is_drawn meets_row passed with_rest
+unfolding meets_row passed with_rest
 past width y false find p drawn off = refl
 past width y true (Some a) p drawn off = sym (reach-out width y a p (sym (and-true (reaches_at a width y)) ∙ off))
 past width y true None p drawn off = never (drawn refl)
@@ -114,17 +113,17 @@ module _ (old new : Option Action) (pace : Pace) where
       )
 
 -- THE PACE
-not-met : (find : Option Action) (width y : ℕ) → not (meets_row find width y) ≡ true → is_drawn find ≡ true
-unfolding is_drawn meets_row
+not-met : (find : Option Action) (width y : ℕ) → not (meets_row find width y) ≡ true → is_some find ≡ true
+unfolding meets_row
 not-met (Some a) width y e = refl
 not-met None width y e = never e
 
 module _ (old new : Option Action) (p q width y : ℕ) where
-  pub pace-old : (pace_of old new p q width y).old ≡ true → is_drawn old ≡ true
+  pub pace-old : (pace_of old new p q width y).old ≡ true → is_some old ≡ true
   unfolding pace_of
   pace-old e = not-met old width y (both_true (not (meets_row old width y)) _ e).0
 
-  pub pace-new : (pace_of old new p q width y).new ≡ true → is_drawn new ≡ true
+  pub pace-new : (pace_of old new p q width y).new ≡ true → is_some new ≡ true
   unfolding pace_of
   pace-new e = not-met new width y (both_true (not (meets_row new width y)) _ e).0
 
@@ -173,7 +172,7 @@ split a b c d e h = go (a && c) (b && d) h
     go false z t = (refl, t)
 
 module _ (width y : ℕ) (old new : Option Action) (pace : Pace) (apart : old ≡ new → ⊥)
-    (old_drawn : pace.old ≡ true → is_drawn old ≡ true) (new_drawn : pace.new ≡ true → is_drawn new ≡ true) where
+    (old_drawn : pace.old ≡ true → is_some old ≡ true) (new_drawn : pace.new ≡ true → is_some new ≡ true) where
   pub stood : {m' : ℕ} → m' ≡ standing (meets_row old width y) (meets_row new width y) pace → Passes width y old new pace beside m'
   unfolding standing
   stood {m'} is = go (meets_row old width y && meets_row new width y) refl
@@ -230,11 +229,11 @@ unmoved width y old new pace off e = record {
 }
 
 -- the same action in both lists
-pub same-passed : (width y : ℕ) (old new : Option Action) {m : ℕ} → old ≡ new → is_drawn old ≡ true → Passes width y old new (record { old = true; new = true }) m m
-unfolding is_drawn passed with_rest
+pub same-passed : (width y : ℕ) (old new : Option Action) {m : ℕ} → old ≡ new → is_some old ≡ true → Passes width y old new (record { old = true; new = true }) m m
+unfolding passed with_rest
 same-passed width y old new {m} e d = subst (λ (n : Option Action). Passes width y old n (record { old = true; new = true }) m m) e (alone old d)
   where
-    alone : (find : Option Action) → is_drawn find ≡ true → Passes width y find find (record { old = true; new = true }) m m
+    alone : (find : Option Action) → is_some find ≡ true → Passes width y find find (record { old = true; new = true }) m m
     alone (Some a) d = record {
       others = λ o. refl;
       known = λ i. omega (arith, i);
@@ -246,11 +245,11 @@ same-passed width y old new {m} e d = subst (λ (n : Option Action). Passes widt
     alone None d = never d
 
 -- both lists have ended
-pub both-over : (width y : ℕ) (old new : Option Action) {m m' : ℕ} → old ≡ new → is_drawn old ≡ false → (m ≡ beside → m' ≡ 0) → ((m ≡ beside → ⊥) → m' ≡ m) → Passes width y old new (record { old = false; new = false }) m m'
-unfolding is_drawn passed with_rest
+pub both-over : (width y : ℕ) (old new : Option Action) {m m' : ℕ} → old ≡ new → is_some old ≡ false → (m ≡ beside → m' ≡ 0) → ((m ≡ beside → ⊥) → m' ≡ m) → Passes width y old new (record { old = false; new = false }) m m'
+unfolding passed with_rest
 both-over width y old new {m} {m'} e d z o = subst (λ (n : Option Action). Passes width y old n (record { old = false; new = false }) m m') e (alone old d)
   where
-    alone : (find : Option Action) → is_drawn find ≡ false → Passes width y find find (record { old = false; new = false }) m m'
+    alone : (find : Option Action) → is_some find ≡ false → Passes width y find find (record { old = false; new = false }) m m'
     alone (Some a) d = never (sym d)
     alone None d = record {
       others = o;
@@ -262,11 +261,11 @@ both-over width y old new {m} {m'} e d z o = subst (λ (n : Option Action). Pass
     }
 
 -- ALL ROWS
-drawn-too : (old new : Option Action) → old ≡ new → is_drawn old ≡ true → is_drawn new ≡ true
-drawn-too old new e d = sym (ap is_drawn e) ∙ d
+drawn-too : (old new : Option Action) → old ≡ new → is_some old ≡ true → is_some new ≡ true
+drawn-too old new e d = sym (ap is_some e) ∙ d
 
 module _ {width y : ℕ} (old new : Option Action) {marks : List ℕ} where
-  pub compare_same : old ≡ new → is_drawn old ≡ true → get_or marks y 0 ≡ beside → Compares width y old new (record { old = true; new = true }) marks marks
+  pub compare_same : old ≡ new → is_some old ≡ true → get_or marks y 0 ≡ beside → Compares width y old new (record { old = true; new = true }) marks marks
   compare_same e d at = record {
     old_drawn = λ t. d;
     new_drawn = λ t. drawn-too old new e d;
@@ -275,7 +274,7 @@ module _ {width y : ℕ} (old new : Option Action) {marks : List ℕ} where
     moves = inl refl;
   }
 
-  pub compare-over : {marks' : List ℕ} → old ≡ new → is_drawn old ≡ false → y < length marks → get_or marks y 0 ≡ beside → Turns beside 0 marks marks' → Compares width y old new (record { old = false; new = false }) marks marks'
+  pub compare-over : {marks' : List ℕ} → old ≡ new → is_some old ≡ false → y < length marks → get_or marks y 0 ≡ beside → Turns beside 0 marks marks' → Compares width y old new (record { old = false; new = false }) marks marks'
   compare-over {marks'} e d h at t = record {
     old_drawn = λ i. never i;
     new_drawn = λ i. never i;

@@ -1,6 +1,6 @@
 -- Two lists gone through side by side, and how a row stands meanwhile. No sentence of document 01 stands behind these contracts: they say that what is
 -- passed of both lists tells nothing of a row that stands beside, so that what is left of them settles what Repaint defines.
-use Rattle.std.specs.Prelude.{Bool, true, false, not, Option, Some, None, cond, ◌&&◌, ◌||◌, List, [], ◌∷◌, ◌⊎◌, ◌≡◌, ℕ, ◌+◌, ◌<◌, ◌≤◌, leb, length, get_or}
+use Rattle.std.specs.Prelude.{Bool, true, false, not, Option, Some, None, is_some, cond, ◌&&◌, ◌||◌, List, [], ◌∷◌, ◌⊎◌, ◌≡◌, ℕ, ◌<◌, ◌≤◌, leb, length, get_or}
 use Rattle.action.specs.declared.Action.{Action}
 use Rattle.shape.specs.Cover.{outline_of, reaches_row}
 use Rattle.units.specs.Units.{pixel_at, tallest, widest}
@@ -15,10 +15,6 @@ abbrev pub Alike : ℕ → ℕ → List Action → List Action → Type 0
 Alike width y old new = reaching width y old ≡ reaching width y new
 
 -- WHAT A RUN CAME TO: an action, or the end. What is left of its actions where it goes on, and where it does not
-unfoldable pub is_drawn : Option Action → Bool
-is_drawn (Some a) = true
-is_drawn None = false
-
 unfoldable pub with_rest : Option Action → List Action → List Action
 with_rest (Some a) rest = a ∷ rest
 with_rest None rest = []
@@ -94,8 +90,8 @@ pub record Passes (width y : ℕ) (old new : Option Action) (pace : Pace) (m m' 
 
 -- and for all of them. A list goes on, or row y is settled; it is not left for later
 pub record Compares (width y : ℕ) (old new : Option Action) (pace : Pace) (marks marks' : List ℕ) : Type 0 where
-  pub old_drawn : pace.old ≡ true → is_drawn old ≡ true
-  pub new_drawn : pace.new ≡ true → is_drawn new ≡ true
+  pub old_drawn : pace.old ≡ true → is_some old ≡ true
+  pub new_drawn : pace.new ≡ true → is_some new ≡ true
   pub rows : (k : ℕ) → k < length marks → Passes width k old new pace (get_or marks k 0) (get_or marks' k 0)
   pub kept : get_or marks' y 0 ≡ later → ⊥
   pub moves : (pace.old || pace.new ≡ true) ⊎ (get_or marks' y 0 ≡ beside → ⊥)

@@ -4,8 +4,7 @@ ghost use Rattle.units.specs.Units.{tallest, widest};
 ghost use Rattle.repaint.specs.Rows.{Bounded, Compares, Stood, Touches, Turns, beside, meets_row, pace_of, standing};
 
 use action::Action;
-use shape::reach;
-use shape::Rows;
+use shape::{Rows, reach};
 use units::TALLEST;
 
 // How a row stands that has no mark yet, which is 0 or 1.
@@ -98,7 +97,15 @@ fn touched(old: Option<Action>, new: Option<Action>, pace: Pace) -> Rows<u32>
     }
 }
 
-fn settle(old: Option<Action>, new: Option<Action>, pace: Pace, width: u32, from: u32, to: u32, marks: &mut [u8])
+fn settle(
+    old: Option<Action>,
+    new: Option<Action>,
+    pace: Pace,
+    width: u32,
+    from: u32,
+    to: u32,
+    marks: &mut [u8],
+)
     requires { Touches old new pace from to × ((length marks.old ≤ tallest) × (width ≤ widest)) }
     ensures { Stood width old new pace marks.old marks.new }
 {
@@ -123,7 +130,14 @@ pub fn turn(marks: &mut [u8], was: u8, then: u8)
 }
 
 // Row y stands beside, and is not left for later.
-pub fn compare(old: Option<Action>, new: Option<Action>, ahead: Ahead, width: u32, y: u32, marks: &mut [u8]) -> Pace
+pub fn compare(
+    old: Option<Action>,
+    new: Option<Action>,
+    ahead: Ahead,
+    width: u32,
+    y: u32,
+    marks: &mut [u8],
+) -> Pace
     requires { ((y < length marks.old) × (get_or marks.old y 0 ≡ beside)) × ((length marks.old ≤ tallest) × (width ≤ widest)) }
     ensures { Compares width y old new result marks.old marks.new }
 {

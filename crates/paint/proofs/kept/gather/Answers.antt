@@ -12,7 +12,7 @@ use Rattle.paint.proofs.kept.gather.Goals as goal
 pub loop-count-init : goal.loop-count-init
 loop-count-init c = (
   zero-le,
-  record { rooms = c.requires.1; banded = λ k h. absurd (not-suc-le-zero h); parts = rw (kept-none, c.start-engine.ensures) },
+  record { rooms = c.requires.1; banded = λ k h. absurd (not-suc-le-zero h); parts = rw (kept-none, c.start-engine.ensures, c.unset-handles.ensures) },
 )
 
 pub returns-in-Over : goal.returns-in-Over
