@@ -7,12 +7,13 @@ use Rattle.action.specs.declared.Action.{Action}
 use Rattle.engine.specs.declared.handles.Handles.{Handles}
 use Rattle.engine.specs.declared.run.Advanced.{Advanced}
 use Rattle.engine.specs.declared.run.Find.TheVariants as f
+use Rattle.std.specs.Prelude.{Option}
 use Rattle.engine.specs.declared.run.Stop.{Stop}
 use Rattle.engine.specs.Advance.{Advances, Spent, then, heard}
 use Rattle.engine.specs.Run.{State, run, ending_of}
 
 module _ (list : List ℕ) (memory allowed : ℕ) (from : State) (a : Advanced) (hs : Handles) (h : Advances list memory allowed false from a hs) where
-  pub within : (stop : Stop) → a.find ≡ f.Over stop → a.left ≤ allowed
+  pub within : (stop : Option Stop) → a.find ≡ f.Over stop → a.left ≤ allowed
   unfolding Spent
   within stop e = rw e at h.spent
 
@@ -20,6 +21,6 @@ module _ (list : List ℕ) (memory allowed : ℕ) (from : State) (a : Advanced) 
   unfolding Spent
   never d e = let s = rw e at h.spent in false≢true s.0
 
-  pub ending : (stop : Stop) → a.find ≡ f.Over stop → record { stop = stop; count = allowed - a.left } ≡ ending_of (run list memory allowed from)
+  pub ending : (stop : Option Stop) → a.find ≡ f.Over stop → record { stop = stop; count = allowed - a.left } ≡ ending_of (run list memory allowed from)
   unfolding then heard
   ending stop e = sym (ap ending_of (rw e at h.whole))

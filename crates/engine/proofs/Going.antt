@@ -10,6 +10,7 @@ use Rattle.engine.specs.declared.handles.Handles.{Handles}
 use Rattle.engine.specs.declared.kept.Engine.{Engine}
 use Rattle.engine.specs.declared.run.Advanced.{Advanced}
 use Rattle.engine.specs.declared.run.Find.TheVariants as f
+use Rattle.std.specs.Prelude.{Option}
 use Rattle.engine.specs.declared.run.Stop.{Stop}
 
 abbrev pub actions_from : List ℕ → ℕ → ℕ → Engine → Handles → List Action
@@ -27,6 +28,6 @@ module _ {list : List ℕ} {memory left : ℕ} {engine : Engine} {handles after 
   unfolding heard then
   next-action action e = ap (λ (r : Ran). r.actions) went.whole ∙ rw e
 
-  pub no-action : (stop : Stop) → a.find ≡ f.Over stop → actions_from list memory left engine handles ≡ []
+  pub no-action : (stop : Option Stop) → a.find ≡ f.Over stop → actions_from list memory left engine handles ≡ []
   unfolding heard then
   no-action stop e = ap (λ (r : Ran). r.actions) went.whole ∙ rw e

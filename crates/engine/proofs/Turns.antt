@@ -9,7 +9,9 @@ use borrow.Author.Tests.{lt-ltb, le-ltb}
 use lib.ListN.{length}
 use Rattle.engine.specs.declared.kept.Engine.{Engine}
 use Rattle.engine.specs.declared.context.Context.{Context}
+use Rattle.std.specs.Prelude.{None}
 use Rattle.engine.specs.declared.fault.Fault.{Fault}
+use Rattle.engine.specs.declared.fault.Fault.TheVariants as why
 use Rattle.engine.specs.declared.handles.Handles.{Handles}
 use Rattle.engine.specs.declared.machine.Event.{Event}
 use Rattle.engine.specs.declared.machine.Event.TheVariants as e
@@ -17,7 +19,6 @@ use Rattle.engine.specs.declared.machine.Shape.{Shape}
 use Rattle.engine.specs.declared.machine.Stepped.{Stepped}
 use Rattle.engine.specs.declared.run.Find.TheVariants as f
 use Rattle.engine.specs.Advance.{more, then, heard}
-use Rattle.engine.specs.Fault.{fault_number}
 use Rattle.engine.specs.Run.{State, place_of, step_of, settled, action_of, stop_at, Ran, run, after, counted}
 
 -- one word more, counted here or there
@@ -27,7 +28,7 @@ on-count allowed left r some within =
     rw k
 
 module _ (list : List ℕ) (memory : ℕ) (x : State) (allowed : ℕ) where
-  pub past : (left : ℕ) → 0 < left → length list ≤ place_of x → (rest : Ran) → more (allowed - left) (run list memory left x) ≡ then (allowed - left) (f.Over (stop_at 10 (place_of x))) rest
+  pub past : (left : ℕ) → 0 < left → length list ≤ place_of x → (rest : Ran) → more (allowed - left) (run list memory left x) ≡ then (allowed - left) (f.Over (stop_at why.PastTheEnd (place_of x))) rest
   unfolding run then
   past zero some h rest = absurd (omega arith)
   past (suc n) some h rest =
@@ -73,14 +74,14 @@ module _ (list : List ℕ) (memory : ℕ) (x : State) (allowed : ℕ) where
           rw (turn left some inside, h, k)
 
       pub ended : s.event ≡ e.Ended → (rest : Ran) →
-          more (allowed - left) (run list memory left x) ≡ then (allowed - (left - 1)) (f.Over (stop_at 0 0)) rest
+          more (allowed - left) (run list memory left x) ≡ then (allowed - (left - 1)) (f.Over None) rest
       unfolding after then
       ended h rest =
           let k : allowed - left + 1 ≡ allowed - (left - 1) = omega arith in
           rw (turn left some inside, h, k)
 
       pub faulted : (fault : Fault) → s.event ≡ e.Fault fault → (rest : Ran) →
-          more (allowed - left) (run list memory left x) ≡ then (allowed - (left - 1)) (f.Over (stop_at (fault_number fault) (place_of x))) rest
+          more (allowed - left) (run list memory left x) ≡ then (allowed - (left - 1)) (f.Over (stop_at fault (place_of x))) rest
       unfolding after then
       faulted fault h rest =
           let k : allowed - left + 1 ≡ allowed - (left - 1) = omega arith in

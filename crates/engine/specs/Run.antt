@@ -1,7 +1,7 @@
 -- The run of a list: its actions in order, and its number, place and count together. Document 01, 'Number table': the rows 0, 10 and 19, and
 -- 'Numbers 10 to 19 carry the byte offset of the word (for 10 and 19, the one that would be next). Words fetched are counted, the faulting
 -- one included'. Wish 1 of document 02 adds 20, which is told as these are.
-use Rattle.std.specs.Prelude.{cond, List, [], ◌∷◌, ℕ, zero, suc, ◌+◌, ◌^◌, ◌≤◌, ltb, length}
+use Rattle.std.specs.Prelude.{cond, Option, Some, None, List, [], ◌∷◌, ℕ, zero, suc, ◌+◌, ◌^◌, ◌≤◌, ltb, length}
 use Rattle.action.specs.declared.Action.{Action}
 use Rattle.action.specs.declared.ink.Clear.{Clear}
 use Rattle.action.specs.declared.Drawing.{Drawing}
@@ -10,6 +10,8 @@ use Rattle.runs.specs.Runs.{word_at}
 use Rattle.engine.specs.declared.running.Ending.{Ending}
 use Rattle.engine.specs.declared.run.Stop.{Stop}
 use Rattle.engine.specs.declared.context.Context.{Context}
+use Rattle.engine.specs.declared.fault.Fault.{Fault}
+use Rattle.engine.specs.declared.fault.Fault.TheVariants as fault
 use Rattle.engine.specs.declared.handles.Handles.{Handles}
 use Rattle.engine.specs.declared.kept.Engine.{Engine}
 use Rattle.engine.specs.declared.machine.Event.{Event}
@@ -73,7 +75,7 @@ settled (e.Call to) x = called x to
 settled e.Return x = returned x
 settled (e.Draw shape) x = x
 settled e.Ended x = x
-settled (e.Fault fault) x = x
+settled (e.Fault why) x = x
 
 abbrev pub next_of : List ℕ → ℕ → State → State
 next_of list memory x =
@@ -86,13 +88,22 @@ next_of list memory x =
 -- THE RUN, by recursion on the words still allowed
 pub record Ran : Type 0 where
   pub actions : List Action
-  pub stop : Stop
+  pub stop : Option Stop
   pub count : ℕ
 
-abbrev pub stop_at : ℕ → ℕ → Stop
-stop_at number place = record { number = number; place = place }
+abbrev pub stop_at : Fault → ℕ → Option Stop
+stop_at fault place = Some (record { fault = fault; place = place })
 
-abbrev pub stopped : Stop → ℕ → Ran
+-- number and place: a run that came to the list's end has number 0, and '0 to 4 carry offset 0'
+abbrev pub number_of : Option Stop → ℕ
+number_of None = 0
+number_of (Some stop) = fault_number stop.fault
+
+abbrev pub place_told : Option Stop → ℕ
+place_told None = 0
+place_told (Some stop) = stop.place
+
+abbrev pub stopped : Option Stop → ℕ → Ran
 stopped stop count = record { actions = []; stop = stop; count = count }
 
 -- one word more was fetched
@@ -110,16 +121,16 @@ after at c e.Restore rest = counted rest
 after at c (e.Call to) rest = counted rest
 after at c e.Return rest = counted rest
 after at c (e.Draw shape) rest = acted (action_of c shape) (counted rest)
-after at c e.Ended rest = stopped (stop_at 0 0) 1
-after at c (e.Fault fault) rest = stopped (stop_at (fault_number fault) at) 1
+after at c e.Ended rest = stopped None 1
+after at c (e.Fault why) rest = stopped (stop_at why at) 1
 
 -- 19 before 10, and both before the word is looked at
 unfoldable pub run : List ℕ → ℕ → ℕ → State → Ran
-run list memory zero x = stopped (stop_at 19 (place_of x)) 0
+run list memory zero x = stopped (stop_at fault.LimitReached (place_of x)) 0
 run list memory (suc n) x =
     cond (ltb (place_of x) (length list))
     (after (place_of x) (next_of list memory x).engine.now.context (event_of list memory x) (run list memory n (next_of list memory x)))
-    (stopped (stop_at 10 (place_of x)) 0)
+    (stopped (stop_at fault.PastTheEnd (place_of x)) 0)
 
 -- 'Every run starts with all handles unset.'
 abbrev pub at_start : State

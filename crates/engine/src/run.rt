@@ -1,7 +1,7 @@
 // A run from one drawing action to the next.
 ghost use Rattle.std.specs.Prelude.{◌≡◌};
 ghost use Rattle.engine.specs.Advance.{is_kept, found, Advances};
-ghost use Rattle.engine.specs.Run.{WithinLimits, clear_of, drawing_of, action_of, stop_at};
+ghost use Rattle.engine.specs.Run.{WithinLimits, clear_of, drawing_of, action_of};
 
 use crate::context::Context;
 use crate::fault::Fault;
@@ -10,10 +10,10 @@ use crate::kept::{Engine, Kept};
 use crate::machine::{Event, Flags, Machine, Shape};
 use action::{Action, Clear, Drawing};
 
-// What a run stops with: its number in document 01's table, and the place that goes with it.
+// Why a run stops before its list has ended, and at which place.
 #[derive(Clone, Copy)]
 pub struct Stop {
-    pub number: u32,
+    pub fault: Fault,
     pub place: u32,
 }
 
@@ -21,7 +21,7 @@ pub struct Stop {
 #[derive(Clone, Copy)]
 pub enum Find {
     Drew(Action),
-    Over(Stop),
+    Over(Option<Stop>),
 }
 
 // `left` is how many words are still allowed.
@@ -77,22 +77,14 @@ fn act(context: Context, shape: Shape) -> Action
     }
 }
 
-// A run that is over, with its number and place.
-fn over(now: Machine, kept: Kept, left: u32, number: u32, place: u32) -> Advanced
-    ensures { result ≡ found now kept left (Find.Over (stop_at number place)) }
+// A run that is over: at the list's end, or at a fault.
+fn over(now: Machine, kept: Kept, left: u32, stop: Option<Stop>) -> Advanced
+    ensures { result ≡ found now kept left (Find.Over stop) }
 {
-    let engine = Engine {
-        now: now,
-        kept: kept,
-    };
-    let find = Find::Over(Stop {
-        number: number,
-        place: place,
-    });
     Advanced {
-        engine: engine,
-        left: left,
-        find: find,
+        engine: Engine { now, kept },
+        left,
+        find: Find::Over(stop),
     }
 }
 
@@ -140,7 +132,15 @@ pub fn advance(
     while 0 < left {
         let at = now.at;
         if list.len() <= wide(at) {
-            return over(now, kept, left, Fault::PastTheEnd.number(), at);
+            return over(
+                now,
+                kept,
+                left,
+                Some(Stop {
+                    fault: Fault::PastTheEnd,
+                    place: at,
+                }),
+            );
         }
         left = left - 1;
         let bits = runs::word_at(list, at);
@@ -200,13 +200,21 @@ pub fn advance(
                 }
             }
             Event::Ended => {
-                return over(now, kept, left, 0, 0);
+                return over(now, kept, left, None);
             }
             Event::Fault(fault) => {
-                return over(now, kept, left, fault.number(), at);
+                return over(now, kept, left, Some(Stop { fault, place: at }));
             }
         }
     }
     let at = now.at;
-    over(now, kept, left, Fault::LimitReached.number(), at)
+    over(
+        now,
+        kept,
+        left,
+        Some(Stop {
+            fault: Fault::LimitReached,
+            place: at,
+        }),
+    )
 }

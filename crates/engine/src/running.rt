@@ -1,6 +1,6 @@
 // A screen's list run: to its end or fault at once, or from one drawing action to the next.
 ghost use Rattle.std.specs.Prelude.{◌≡◌};
-ghost use Rattle.engine.specs.Run.{ending_of};
+ghost use Rattle.engine.specs.Run.{ending_of, number_of, place_told};
 ghost use Rattle.engine.specs.Running.{actions_in, actions_left, run_in};
 ghost use Rattle.std.specs.Iterator.{YieldsFirst, item_count};
 
@@ -13,8 +13,24 @@ use action::Action;
 // How a run ends, and how many words it fetched.
 #[derive(Clone, Copy)]
 pub struct Ending {
-    pub stop: Stop,
+    pub stop: Option<Stop>,
     pub count: u32,
+}
+
+impl Ending {
+    // The number of document 01's table.
+    pub fn number(self) -> u32
+        ensures { result ≡ number_of self.stop }
+    {
+        self.stop.map_or(0, |stop| stop.fault.number())
+    }
+
+    // The place that goes with the number.
+    pub fn place(self) -> u32
+        ensures { result ≡ place_told self.stop }
+    {
+        self.stop.map_or(0, |stop| stop.place)
+    }
 }
 
 // A run that is asked for one drawing action after the other. `left` is how many words are still allowed.
@@ -56,14 +72,11 @@ impl<'a> Screen<'a> {
         match advanced.find {
             // Actions are not asked for, so that none is found.
             Find::Drew(_) => Ending {
-                stop: Stop {
-                    number: 0,
-                    place: 0,
-                },
+                stop: None,
                 count: 0,
             },
             Find::Over(stop) => Ending {
-                stop: stop,
+                stop,
                 count: self.limit - advanced.left,
             },
         }

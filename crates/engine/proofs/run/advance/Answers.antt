@@ -5,6 +5,7 @@ use mathlib.Core.List.{List}
 use lib.ListN.{length}
 use borrow.Author.Rules.{rules}
 use Rattle.engine.specs.Kept.{dropped, pushed, popped, called, returned}
+use Rattle.engine.specs.declared.fault.Fault.TheVariants as fault
 use Rattle.engine.specs.declared.machine.Event.TheVariants as e
 use Rattle.engine.specs.declared.run.Find.TheVariants as f
 use Rattle.engine.specs.Advance.{Spent, more, then, heard}
@@ -19,7 +20,7 @@ use Rattle.engine.proofs.run.advance.Goals.{then-is_kept, else-is_kept}
 -- The limit is used up: 19, wherever the next word lies.
 spent :
     (list : List ℕ) (memory : ℕ) (x : State) (allowed left : ℕ) → left ≡ 0 → (rest : Ran) →
-    more (allowed - left) (run list memory left x) ≡ then (allowed - left) (f.Over (stop_at 19 (place_of x))) rest
+    more (allowed - left) (run list memory left x) ≡ then (allowed - left) (f.Over (stop_at fault.LimitReached (place_of x))) rest
 unfolding run then
 spent list memory x allowed left z rest =
     let k : allowed - 0 + 0 ≡ allowed - 0 = omega arith in
@@ -38,7 +39,7 @@ returns-then-list-wide c =
     let a = c.args in
     let l = c.loop-left in
     let x : State = record { engine = record { now = l.now; kept = l.kept }; handles = l.handles } in
-    rw (c.over.ensures, c.number.ensures)
+    rw c.over.ensures
     (record {
       spent = l.invariant.0;
       whole = l.invariant.1.1 ∙ ap (heard a.halt) (past a.list.now a.memory x a.allowed l.left (omega (arith, c.loop-left-test.true)) (omega (arith, c.if-list-wide.true, c.wide.ensures)) _);
@@ -190,7 +191,7 @@ returns-in-Fault c =
     let s = c.step-stepped in
     let some : 0 < l.left = omega (arith, c.loop-left-test.true) in
     let inside : l.now.at < length a.list.now = omega (arith, c.if-list-wide.false, c.wide.ensures) in
-    rw (c.over-in-Fault.ensures, c.number-in-Fault.ensures)
+    rw c.over-in-Fault.ensures
     (record {
       spent = omega (arith, l.invariant.0);
       whole = l.invariant.1.1 ∙ ap (heard a.halt) (faulted a.list.now a.memory x a.allowed s.result _ (s.ensures.0 ∙ rw w) (s.ensures.1 ∙ rw w) l.left some l.invariant.0 inside _ c.in-Fault.is _);
@@ -202,7 +203,7 @@ returns c =
     let a = c.args in
     let l = c.loop-left in
     let x : State = record { engine = record { now = l.now; kept = l.kept }; handles = l.handles } in
-    rw (c.over-2.ensures, c.number-2.ensures)
+    rw c.over-2.ensures
     (record {
       spent = l.invariant.0;
       whole = l.invariant.1.1 ∙ ap (heard a.halt) (spent a.list.now a.memory x a.allowed l.left (omega (arith, c.loop-left-test.false)) _);
