@@ -25,16 +25,6 @@ pub write-once : (s : Spelling) (p q : JvBits) → WriteAnswer s p → WriteAnsw
 unfolding WriteAnswer
 write-once s p q h k = h ∙ sym k
 
--- FROM THE CRATE `words` TO AN ANSWER.
-
-pub read_answer : (bits : ℕ) (found : Result Spelling WordFault) (answer : JvWord) → found ≡ spell_word bits → answer ≡ read_told found → ReadAnswer bits answer
-unfolding ReadAnswer
-read_answer bits found answer e h = h ∙ ap read_told e
-
-pub write-answer : (s : Spelling) (made : Result ℕ WordFault) (answer : JvBits) → made ≡ write_spelling s → answer ≡ written_told made → WriteAnswer s answer
-unfolding WriteAnswer
-write-answer s made answer e h = h ∙ ap written_told e
-
 -- THE ROUND TRIPS.
 
 bits_of : (q : Result ℕ WordFault) → (written_told q).number ≡ 0 → q ≡ Ok (written_told q).bits

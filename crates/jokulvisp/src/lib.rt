@@ -48,6 +48,7 @@ fn tell(number: u32, s: Spelling) -> JvWord
     }
 }
 
+#[tactic(auto, unfolding(crate::specs::Words::ReadAnswer))]
 pub fn jv_read_word(bits: u32) -> JvWord
     ensures { ReadAnswer bits result }
 {
@@ -61,6 +62,7 @@ pub fn jv_read_word(bits: u32) -> JvWord
     }
 }
 
+#[tactic(auto, unfolding(crate::specs::Words::WriteAnswer))]
 pub fn jv_write_word(command: u32, a: u32, b: u32, c: u32, d: u32, e: u32) -> JvBits
     ensures { WriteAnswer (record { command = command; numbers = a ∷ b ∷ c ∷ d ∷ e ∷ [] }) result }
 {

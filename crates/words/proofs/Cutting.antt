@@ -8,27 +8,19 @@ use lib.ListN.{length, get_or}
 use lib.Pow.{pow_mono}
 use borrow.Author.Tests.{leb-true}
 use Rattle.words.specs.declared.field.Field.{Field}
-use Rattle.words.specs.declared.field.Field.TheVariants.{Bits, Signed}
+use Rattle.words.specs.declared.field.Field.TheVariants.{Signed}
 use Rattle.words.specs.declared.fault.WordFault.TheVariants.{NoCommand}
 use Rattle.words.specs.Fields.{above, values, all_mean}
 use Rattle.words.specs.Layout.{filled, layout_of, all_signs, Cuttable, Digit}
 use Rattle.words.specs.Table.{row, Found, none, some, row_of}
 use Rattle.words.specs.Words.{command, checked, decoded, spell_as, spell_word}
 use Rattle.words.proofs.Digits.{halves, above-div}
-use Rattle.words.proofs.Packing.{padded, total-padded, OfLayout, five-same}
+use Rattle.words.proofs.Packing.{padded, total-padded, by-place}
 use Rattle.words.proofs.Rows.{spelling-by}
 use Rattle.words.proofs.Table.{Sound, sound}
-use Rattle.std.specs.Prelude.{Option, Err}
+use Rattle.std.specs.Prelude.{Option, MatchOption, Err}
 
--- five fields by their places
-pub by-place : (fs : List Field) → length fs ≡ 5 → get_or fs 0 (Bits 0) ∷ get_or fs 1 (Bits 0) ∷ get_or fs 2 (Bits 0) ∷ get_or fs 3 (Bits 0) ∷ get_or fs 4 (Bits 0) ∷ [] ≡ fs
-by-place [] l = absurd (omega arith)
-by-place (a ∷ []) l = absurd (omega arith)
-by-place (a ∷ b ∷ []) l = absurd (omega arith)
-by-place (a ∷ b ∷ c ∷ []) l = absurd (omega arith)
-by-place (a ∷ b ∷ c ∷ d ∷ []) l = absurd (omega arith)
-by-place (a ∷ b ∷ c ∷ d ∷ e ∷ []) l = refl
-by-place (a ∷ b ∷ c ∷ d ∷ e ∷ f ∷ fs) l = absurd (omega arith)
+-- ONE FIELD.
 
 pub signed-digit : {k n : ℕ} → Digit (Signed k) n → (2 ^ k / 2 ≤ 2 ^ 30) × (n < 2 ^ k / 2 + 2 ^ k / 2)
 signed-digit {k} h = (omega (arith, pow_mono h.narrow), omega (arith, h.below, halves k h.narrow (leb-true _ _ h.signed)))
@@ -70,14 +62,14 @@ pub record Tells (w n : ℕ) (fs : List Field) : Type 0 where
   pub cuttable : Cuttable fs
   pub tells : length (values fs w) ≡ 5 → checked (all_mean fs (values fs w)) (record { command = n; numbers = values fs w }) ≡ spell_word w
 
-pub telling : (w : ℕ) {n : ℕ} {l : Option (List Field)} → n ≡ command w → layout_of (row_of n) ≡ l → OfLayout (spell_word w ≡ Err NoCommand) (Tells w n) l
+pub telling : (w : ℕ) {n : ℕ} {l : Option (List Field)} → n ≡ command w → layout_of (row_of n) ≡ l → MatchOption l (spell_word w ≡ Err NoCommand) (Tells w n)
 unfolding spell_word
-telling w {n} e h = subst (OfLayout (spell_word w ≡ Err NoCommand) (Tells w n)) h (go (row_of n) refl (sound n))
+telling w {n} e h = subst (λ (k : Option (List Field)). MatchOption k (spell_word w ≡ Err NoCommand) (Tells w n)) h (go (row_of n) refl (sound n))
   where
     spells : (f : Found) → row_of n ≡ f → spell_word w ≡ spell_as f w
     spells f q = rw (← e, q)
 
-    go : (f : Found) → row_of n ≡ f → Sound n f → OfLayout (spell_word w ≡ Err NoCommand) (Tells w n) (layout_of f)
+    go : (f : Found) → row_of n ≡ f → Sound n f → MatchOption (layout_of f) (spell_word w ≡ Err NoCommand) (Tells w n)
     go none q p = spells none q
     go (some (row code fs make)) q p =
         record {
@@ -85,7 +77,7 @@ telling w {n} e h = subst (OfLayout (spell_word w ≡ Err NoCommand) (Tells w n)
           tells = λ l.
               ap
               (λ (ns : List ℕ). checked (all_mean (filled fs) (values (filled fs) w)) (record { command = n; numbers = ns }))
-              (sym (five-same (values (filled fs) w) l))
+              (sym (by-place 0 (values (filled fs) w) l))
               ∙ decoded-padded fs (5 - length fs) n w
               ∙ ap (λ (m : ℕ). decoded m fs w) (sym p.own)
               ∙ sym (spells (some (row code fs make)) q);

@@ -4,17 +4,17 @@ use Prim.Native.Nat.{ℕ, zero, suc, ◌+◌, ◌-◌, ◌*◌, ◌%◌, ◌^◌
 use mathlib.Core.Path.{◌≡◌, refl, ap, subst}
 use mathlib.Core.List.{List, [], ◌∷◌, ◌++◌}
 use native.Mathlib.Omega.{arith}
-use lib.ListN.{length, replicate}
+use lib.ListN.{length, get_or, replicate}
 use Rattle.words.specs.declared.field.Field.{Field}
 use Rattle.words.specs.declared.field.Field.TheVariants.{Bits}
 use Rattle.words.specs.declared.fault.WordFault.TheVariants.{NoCommand}
 use Rattle.words.specs.declared.spelling.Spelling.{Spelling}
 use Rattle.words.specs.Fields.{width, total, fit, join}
 use Rattle.words.specs.Layout.{filled, layout_of}
-use Rattle.words.specs.Table.{row, Found, none, some, row_of, five, numbers}
+use Rattle.words.specs.Table.{row, Found, none, some, row_of, numbers}
 use Rattle.words.specs.Words.{checked, encoded, write_spelling}
 use Rattle.words.proofs.Table.{Sound, sound}
-use Rattle.std.specs.Prelude.{Option, Some, None, Err}
+use Rattle.std.specs.Prelude.{Option, MatchOption, Err}
 
 -- FIELDS WITHOUT BITS after a command's own change nothing.
 
@@ -45,20 +45,15 @@ encoded-padded fs k s h = rw (fit-padded fs k (numbers s) h, join-padded fs k (n
 
 -- A ROW AS THE CODE KEEPS IT.
 
--- A where there is no command, P of the fields where there is one
-abbrev pub OfLayout : Type 0 → (List Field → Type 0) → Option (List Field) → Type 0
-OfLayout A P None = A
-OfLayout A P (Some fs) = P fs
-
--- the numbers of an array of five
-pub five-same : (ns : List ℕ) → length ns ≡ 5 → five ns ≡ ns
-five-same [] l = absurd (omega arith)
-five-same (a ∷ []) l = absurd (omega arith)
-five-same (a ∷ b ∷ []) l = absurd (omega arith)
-five-same (a ∷ b ∷ c ∷ []) l = absurd (omega arith)
-five-same (a ∷ b ∷ c ∷ d ∷ []) l = absurd (omega arith)
-five-same (a ∷ b ∷ c ∷ d ∷ e ∷ []) l = refl
-five-same (a ∷ b ∷ c ∷ d ∷ e ∷ f ∷ ns) l = absurd (omega arith)
+-- the elements of an array of five by their places
+pub by-place : {T : Type 0} (d : T) (xs : List T) → length xs ≡ 5 → get_or xs 0 d ∷ get_or xs 1 d ∷ get_or xs 2 d ∷ get_or xs 3 d ∷ get_or xs 4 d ∷ [] ≡ xs
+by-place d [] l = absurd (omega arith)
+by-place d (v ∷ []) l = absurd (omega arith)
+by-place d (v ∷ w ∷ []) l = absurd (omega arith)
+by-place d (v ∷ w ∷ x ∷ []) l = absurd (omega arith)
+by-place d (v ∷ w ∷ x ∷ y ∷ []) l = absurd (omega arith)
+by-place d (v ∷ w ∷ x ∷ y ∷ z ∷ []) l = refl
+by-place d (v ∷ w ∷ x ∷ y ∷ z ∷ u ∷ xs) l = absurd (omega arith)
 
 -- what a spelling's layout says of writing it
 pub record Writes (s : Spelling) (fs : List Field) : Type 0 where
@@ -66,16 +61,16 @@ pub record Writes (s : Spelling) (fs : List Field) : Type 0 where
   pub narrow : total fs ≤ 30
   pub writes : length s.numbers ≡ 5 → write_spelling s ≡ checked (fit fs s.numbers) (s.command * 2 ^ 24 + join fs s.numbers)
 
-pub writing : (s : Spelling) {l : Option (List Field)} → layout_of (row_of s.command) ≡ l → OfLayout (write_spelling s ≡ Err NoCommand) (Writes s) l
+pub writing : (s : Spelling) {l : Option (List Field)} → layout_of (row_of s.command) ≡ l → MatchOption l (write_spelling s ≡ Err NoCommand) (Writes s)
 unfolding write_spelling
-writing s e = subst (OfLayout (write_spelling s ≡ Err NoCommand) (Writes s)) e (go (row_of s.command) refl (sound s.command))
+writing s e = subst (λ (k : Option (List Field)). MatchOption k (write_spelling s ≡ Err NoCommand) (Writes s)) e (go (row_of s.command) refl (sound s.command))
   where
-    go : (f : Found) → row_of s.command ≡ f → Sound s.command f → OfLayout (write_spelling s ≡ Err NoCommand) (Writes s) (layout_of f)
+    go : (f : Found) → row_of s.command ≡ f → Sound s.command f → MatchOption (layout_of f) (write_spelling s ≡ Err NoCommand) (Writes s)
     go none q h = rw q
     go (some (row code fs make)) q h = record {
       low = h.low;
       narrow = rw (total-padded fs (5 - length fs)) h.narrow;
       writes = λ l.
           rw (q, ← encoded-padded fs (5 - length fs) s (omega (arith, h.few)))
-          (ap (λ (ns : List ℕ). checked (fit (filled fs) ns) (s.command * 2 ^ 24 + join (filled fs) ns)) (five-same s.numbers l));
+          (ap (λ (ns : List ℕ). checked (fit (filled fs) ns) (s.command * 2 ^ 24 + join (filled fs) ns)) (by-place 0 s.numbers l));
     }

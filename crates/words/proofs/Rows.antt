@@ -17,7 +17,7 @@ use Rattle.words.specs.Table.{Make, apply, spelling, numbers}
 use Rattle.std.specs.Prelude.{Ok}
 use Rattle.words.specs.Words.{command, checked, encoded}
 use Rattle.words.proofs.Digits.{front, join-lt, values_join}
-use Rattle.words.proofs.Packing.{five-same}
+use Rattle.words.proofs.Packing.{by-place}
 use Rattle.words.proofs.Table.{Proper, command-of}
 
 -- A SPELLING has five numbers, and those past a command's fields are 0.
@@ -64,7 +64,7 @@ spelling-by n ns ms h = λ i. record { command = n; numbers = h 0 i ∷ h 1 i �
 
 -- so a value of the type, which has five numbers, is its command's and numbers' spelling
 pub spelling-same : (s : Spelling) → length s.numbers ≡ 5 → spelling s.command s.numbers ≡ s
-spelling-same s l = λ i. record { command = s.command; numbers = five-same s.numbers l i }
+spelling-same s l = λ i. record { command = s.command; numbers = by-place 0 s.numbers l i }
 
 pub spelling-back : (fs : List Field) (s : Spelling) → fit fs (numbers s) ≡ true → spelling s.command (front fs (numbers s)) ≡ spelling s.command s.numbers
 spelling-back fs s h = spelling-by s.command (front fs (numbers s)) (numbers s) (λ i. front_at fs (numbers s) i h)

@@ -24,7 +24,8 @@ pub enum Field {
     Signed(u32),
 }
 
-// The fields of a command that has these from the high bits down. Those that it does not have come last and have no bits.
+// The fields of a command that has these from the high bits down. Those that it does not have come last and are of no
+// bits.
 fn laid<const N: usize>(own: [Field; N]) -> [Field; 5]
     requires { N ≤ 5 }
     ensures { result ≡ filled own.entry }

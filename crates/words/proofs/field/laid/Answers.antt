@@ -1,13 +1,7 @@
-use mathlib.Core.Path.{◌≡◌}
-use lib.ListN.{length}
-use native.Mathlib.Omega.{arith}
 use Rattle.std.proofs.Common.{rules}
 use Rattle.std.proofs.lemmas.List.{drop-replicate}
 use Rattle.words.specs.declared.field.Field.TheVariants.{Bits}
 use Rattle.words.proofs.field.laid.Goals as goal
 
 pub returns : goal.returns
-returns g c =
-    let x : length c.args.own ≡ g.row.N = grind arith in
-    let d = drop-replicate g.row.N 5 (Bits 0) in
-    search (rules, drop-replicate)
+returns g c = let d = drop-replicate g.row.N 5 (Bits 0) in search rules
