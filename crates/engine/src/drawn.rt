@@ -7,7 +7,7 @@ ghost use Rattle.engine.specs.Drawn.{drawn_format, drawn_size, drawn_primitive};
 pub fn is_drawn_format(format: u32) -> bool
     ensures { result ≡ drawn_format format }
 {
-    (format == 0) | (format == 3) | (format == 7)
+    matches!(format, 0 | 3 | 7)
 }
 
 // Neither filter 1 nor a wrap 1.
@@ -15,7 +15,7 @@ pub fn is_drawn_format(format: u32) -> bool
 pub fn is_drawn_size(filter: u32, wrapx: u32, wrapy: u32) -> bool
     ensures { result ≡ drawn_size filter wrapx wrapy }
 {
-    (filter == 0) & (wrapx == 0) & (wrapy == 0)
+    filter == 0 && wrapx == 0 && wrapy == 0
 }
 
 // The primitives that are drawn.

@@ -223,7 +223,7 @@ pub fn finish(list: &[u8], memory: u32, limit: u32) -> Ending
     requires { WithinLimits list.now memory }
     ensures { result ≡ ending_of (run_of list.now memory limit) }
 {
-    let mut handles = Handles::unset();
+    let mut handles = Handles::new();
     let advanced = advance(Engine::start(), &mut handles, list, memory, limit, false);
     let left = advanced.left;
     let find = advanced.find;

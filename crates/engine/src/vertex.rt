@@ -37,13 +37,7 @@ fn unit(frac: u32) -> u32
     ensures value { result ≡ unit_of frac }
     ensures upper_bound { result ≤ 16 }
 {
-    match frac {
-        0 => 16,
-        1 => 8,
-        2 => 4,
-        3 => 2,
-        _ => 1,
-    }
+    1 << 4u32.saturating_sub(frac)
 }
 
 #[tactic(auto, unfolding(crate::specs::Vertex::placed2f))]
