@@ -71,7 +71,8 @@ segment_from from v width primitive = record { from = from; to = end_at v; width
 unfoldable pub segmented : Segment → Event
 segmented d = cond (short_ends d) (e.Draw (s.Segment d)) (e.Fault fault.EndTooFar)
 
--- a vertex that finds no open end opens one; else it completes a segment of the primitive's number and leaves `next`, an open end or none
+-- a vertex that finds no open end opens one; else it completes a segment of the primitive's number and leaves `next`, an
+-- open end or none
 abbrev pub linked : Machine → Vertex → ℕ → Option End → Option End → Stepped
 linked m v primitive next None = record { machine = with_corner m (Some (end_at v)); event = e.Quiet }
 linked m v primitive next (Some from) =

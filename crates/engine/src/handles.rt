@@ -29,8 +29,8 @@ pub struct Size {
     pub height: u32,
 }
 
-// What the words of one handle gave. Main word and H word keep their bits apart, since they come in any order; the high bits are 0 until
-// their word gives them.
+// What the words of one handle gave. Main word and H word keep their bits apart, since they come in any order; the high
+// bits are 0 until their word gives them.
 #[derive(Clone, Copy)]
 pub struct Settings {
     pub source: Option<u32>,
@@ -178,7 +178,7 @@ impl Handle {
         self.format == 3 || (self.source % 2 == 0 && self.stride % 2 == 0)
     }
 
-    // The bitmap that the vertex draws, or none for number 18.
+    // The bitmap that the vertex draws, or none for number 18. What is too large for its type lies past RAM_G's end.
     #[tactic(auto, unfolding(crate::specs::Handles::bitmap_of))]
     fn judge(self, v: Vertex, memory: u32) -> Option<Bitmap>
         requires { Narrow self × (memory ≤ most_memory) }

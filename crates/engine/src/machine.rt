@@ -12,8 +12,8 @@ use crate::handles::Handles;
 use action::{Bitmap, End, Point, Rectangle, Segment};
 use words::Read;
 
-// `calls` holds the return addresses, newest first, and `depth` how many are open. `primitive` is the one that is begun, and `corner` a
-// rectangle's first corner or a line's first end that waits for the second one.
+// `calls` holds the return addresses, newest first, and `depth` how many are open. `primitive` is the one that is begun,
+// and `corner` a rectangle's first corner or a line's first end that waits for the second one.
 #[derive(Clone, Copy)]
 pub struct Machine {
     pub context: Context,

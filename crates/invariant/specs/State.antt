@@ -71,8 +71,9 @@ pub record ValidContext (c : Context) : Type 0 where
   pub clearing : ValidClearing c.clearing
   pub placing : ValidPlacing c.placing
 
--- THE MACHINE. Row 16: 'CALL or JUMP target not a multiple of 4', so that every place is one, and every return address; row 14: 'fifth open CALL'. Row
--- 13 refuses a BEGIN that is not drawn: that the primitive is drawn, or none is begun, which is what row 17 asks, its type says
+-- THE MACHINE. Row 16: 'CALL or JUMP target not a multiple of 4', so that every place is one, and every return address;
+-- row 14: 'fifth open CALL'. Row 13 refuses a BEGIN that is not drawn: that the primitive is drawn, or none is begun,
+-- which is what row 17 asks, its type says
 abbrev pub Aligned : ℕ → Type 0
 Aligned place = place % 4 ≡ 0
 
