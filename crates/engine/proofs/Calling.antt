@@ -7,15 +7,17 @@ use borrow.Author.Tests.{eqb-false, leb-false}
 use Rattle.truth.proofs.Bools.{by-test}
 use Rattle.std.specs.Prelude.{Option, Some, None}
 use Rattle.action.specs.declared.shape.Bitmap.{Bitmap}
+use Rattle.action.specs.declared.shape.End.{End}
 use Rattle.action.specs.Ends.{short_ends}
 use Rattle.words.specs.Words.{read_word}
 use Rattle.std.specs.Prelude.{Result, Ok, Err}
 use Rattle.words.specs.declared.fault.WordFault.{WordFault}
 use Rattle.words.specs.declared.word.Word.{Word}
 use Rattle.words.specs.declared.word.Word.TheVariants as v
+use Rattle.engine.specs.declared.drawn.Primitive.{Primitive}
+use Rattle.engine.specs.declared.drawn.Primitive.TheVariants as p
 use Rattle.engine.specs.declared.handles.Handles.{Handles}
 use Rattle.engine.specs.declared.vertex.Vertex.{Vertex}
-use Rattle.engine.specs.declared.vertex.Corner.{Corner}
 use Rattle.engine.specs.declared.machine.Event.{Event}
 use Rattle.engine.specs.declared.machine.Event.TheVariants as e
 use Rattle.engine.specs.declared.machine.Machine.{Machine}
@@ -24,10 +26,10 @@ use Rattle.engine.specs.declared.command.Then.{Then}
 use Rattle.engine.specs.declared.command.Then.TheVariants as t
 use Rattle.engine.specs.Changes.{with_corner}
 use Rattle.engine.specs.Handles.{bitmap_at}
-use Rattle.engine.specs.Command.{Obeys, obeys}
+use Rattle.engine.specs.Command.{Obeys, begins, obeys}
 use Rattle.engine.specs.Drawn.{drawn_format, drawn_size, drawn_primitive}
 use Rattle.engine.specs.Machine.{follows, steps_by, steps}
-use Rattle.engine.specs.Vertex.{bitmapped, closed, opened_at, segment_from, segmented, linked, vertexed}
+use Rattle.engine.specs.Vertex.{bitmapped, segment_from, segmented, linked, cornered, drawn_by, vertexed}
 
 abbrev Ready : Event → Machine → Type 0
 Ready e.Quiet m = Unit
@@ -48,6 +50,10 @@ ReadyBy o = ReadyThen o.obeyed.then o.obeyed.machine
 
 abbrev pub ReadyStep : Stepped → Type 0
 ReadyStep s = Ready s.event s.machine
+
+begin-ready : (m : Machine) (hs : Handles) (o : Option Primitive) → ReadyBy (begins m hs o)
+begin-ready m hs (Some primitive) = tt
+begin-ready m hs None = tt
 
 obeyed-ready : (m : Machine) (hs : Handles) (word : Word) → ReadyBy (obeys m hs word)
 unfolding obeys
@@ -84,7 +90,7 @@ obeyed-ready m hs (v.ScissorXy x y) = tt
 obeyed-ready m hs (v.ScissorSize width height) = tt
 obeyed-ready m hs (v.Call dest) = by-test ReadyBy (leb 4 m.depth) (λ _. tt) (λ few. by-test ReadyBy (eqb (dest % 4) 0) (λ _. leb-false 4 m.depth few) (λ _. tt))
 obeyed-ready m hs (v.Jump dest) = by-test ReadyBy (eqb (dest % 4) 0) (λ _. tt) (λ _. tt)
-obeyed-ready m hs (v.Begin prim) = by-test ReadyBy (drawn_primitive prim) (λ _. tt) (λ _. tt)
+obeyed-ready m hs (v.Begin prim) = begin-ready m hs (drawn_primitive prim)
 obeyed-ready m hs (v.ColorMask r g b a) = tt
 obeyed-ready m hs v.End = tt
 obeyed-ready m hs v.SaveContext = tt
@@ -104,21 +110,27 @@ bitmap-ready : (m : Machine) (b : Option Bitmap) → Ready (bitmapped b) m
 bitmap-ready m (Some b) = tt
 bitmap-ready m None = tt
 
-linked-ready : (m : Machine) (v : Vertex) (next : Corner) → ReadyStep (linked m v next)
+linked-ready : (m : Machine) (v : Vertex) (primitive : ℕ) (next from : Option End) → ReadyStep (linked m v primitive next from)
 unfolding segmented
-linked-ready m v next =
-    by-test ReadyStep (eqb m.corner.waits 0) (λ _. tt)
-    (λ _. by-test (λ event. Ready event (with_corner m next)) (short_ends (segment_from m.corner v m.context.placing.linewidth m.primitive)) (λ _. tt) (λ _. tt))
+linked-ready m v primitive next (Some from) =
+    by-test (λ event. Ready event (with_corner m next)) (short_ends (segment_from from v m.context.placing.linewidth primitive)) (λ _. tt) (λ _. tt)
+linked-ready m v primitive next None = tt
+
+cornered-ready : (m : Machine) (v : Vertex) (corner : Option End) → ReadyStep (cornered m v corner)
+cornered-ready m v (Some corner) = tt
+cornered-ready m v None = tt
+
+drawn-ready : (m : Machine) (hs : Handles) (memory : ℕ) (v : Vertex) (o : Option Primitive) → ReadyStep (drawn_by m hs memory v o)
+drawn-ready m hs memory v (Some p.Bitmaps) = bitmap-ready m (bitmap_at hs v memory)
+drawn-ready m hs memory v (Some p.Points) = tt
+drawn-ready m hs memory v (Some p.Lines) = linked-ready m v 3 None m.corner
+drawn-ready m hs memory v (Some p.LineStrip) = linked-ready m v 4 _ m.corner
+drawn-ready m hs memory v (Some p.Rects) = cornered-ready m v m.corner
+drawn-ready m hs memory v None = tt
 
 vertexed-ready : (m : Machine) (hs : Handles) (memory : ℕ) (v : Vertex) → ReadyStep (vertexed m hs memory v)
 unfolding vertexed
-vertexed-ready m hs memory v =
-    by-test ReadyStep (eqb m.primitive 1) (λ _. bitmap-ready m (bitmap_at hs v memory))
-    (λ _. by-test ReadyStep (eqb m.primitive 2) (λ _. tt)
-    (λ _. by-test ReadyStep (eqb m.primitive 3) (λ _. linked-ready m v (closed m.corner))
-    (λ _. by-test ReadyStep (eqb m.primitive 4) (λ _. linked-ready m v (opened_at v))
-    (λ _. by-test ReadyStep (eqb m.primitive 9) (λ _. by-test ReadyStep (eqb m.corner.waits 0) (λ _. tt) (λ _. tt))
-    (λ _. tt)))))
+vertexed-ready m hs memory v = drawn-ready m hs memory v m.primitive
 
 followed-ready : (m : Machine) (hs : Handles) (memory : ℕ) (then : Then) → ReadyThen then m → ReadyStep (follows m hs memory then).stepped
 followed-ready m hs memory (t.Tell event) h = h

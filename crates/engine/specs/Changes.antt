@@ -1,12 +1,12 @@
 -- A state with one part changed. A record is always written whole, so each definition here changes the values that its name and its arguments
 -- name, and repeats the others.
-use Rattle.std.specs.Prelude.{List, ℕ}
+use Rattle.std.specs.Prelude.{List, Option, ℕ}
 use Rattle.action.specs.declared.ink.ClearValues.{ClearValues}
 use Rattle.action.specs.declared.ink.Masks.{Masks}
+use Rattle.action.specs.declared.shape.End.{End}
 use Rattle.engine.specs.declared.context.Brush.{Brush}
 use Rattle.engine.specs.declared.context.Context.{Context}
 use Rattle.engine.specs.declared.context.Placing.{Placing}
-use Rattle.engine.specs.declared.vertex.Corner.{Corner}
 use Rattle.engine.specs.declared.machine.Machine.{Machine}
 
 -- A MACHINE
@@ -31,7 +31,7 @@ with_place m to = record { context = m.context; calls = m.calls; depth = m.depth
 abbrev pub with_calls : Machine → List ℕ → ℕ → ℕ → Machine
 with_calls m calls depth to = record { context = m.context; calls = calls; depth = depth; primitive = m.primitive; at = to; corner = m.corner }
 
-abbrev pub with_corner : Machine → Corner → Machine
+abbrev pub with_corner : Machine → Option End → Machine
 with_corner m c = record { context = m.context; calls = m.calls; depth = m.depth; primitive = m.primitive; at = m.at; corner = c }
 
 -- A PART OF THE CONTEXT, by each command that sets one

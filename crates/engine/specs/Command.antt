@@ -1,11 +1,12 @@
 -- The commands: what each does to the machine and to the handles, and what it tells. Document 01, 'Words and state' and the rows 13 to 16 of 'Number table';
 -- where they are silent the guide's section of the command.
-use Rattle.std.specs.Prelude.{cond, ℕ, ◌%◌, eqb, leb}
+use Rattle.std.specs.Prelude.{cond, Option, Some, None, ℕ, ◌%◌, eqb, leb}
 use Rattle.units.specs.Units.{translation_at}
 use Rattle.words.specs.declared.word.Word.{Word}
 use Rattle.words.specs.declared.word.Word.TheVariants as v
 use Rattle.engine.specs.declared.command.Obeyed.{Obeyed}
 use Rattle.engine.specs.declared.command.Then.TheVariants as t
+use Rattle.engine.specs.declared.drawn.Primitive.{Primitive}
 use Rattle.engine.specs.declared.fault.Fault.{Fault}
 use Rattle.engine.specs.declared.fault.Fault.TheVariants as fault
 use Rattle.engine.specs.declared.handles.Handles.{Handles}
@@ -17,7 +18,7 @@ use Rattle.engine.specs.declared.vertex.Vertex.{Vertex}
 use Rattle.engine.specs.Changes.{with_brush, with_masks, with_clearing, with_placing, with_place, coloured, faded, tagged, alpha_tested, stencil_tested, stencilled, blended, clear_coloured, clear_faded, clear_stencilled, clear_tagged, colour_masked, stencil_masked, tag_masked, scissored_at, scissored_to, point_sized, line_wide, formatted, handling, celled, moved_across, moved_down}
 use Rattle.engine.specs.Drawn.{drawn_format, drawn_size, drawn_primitive}
 use Rattle.engine.specs.Handles.{sourced, laid_out, sized, laid_out_high, sized_high}
-use Rattle.engine.specs.Vertex.{placed2f, placed2ii, closed}
+use Rattle.engine.specs.Vertex.{placed2f, placed2ii}
 
 -- what a command leaves: the machine, with an event to tell or a vertex to draw, and the handles
 pub record Obeys : Type 0 where
@@ -37,9 +38,14 @@ abbrev pub faulty : Machine → Handles → Fault → Obeys
 faulty m hs why = telling m hs (e.Fault why)
 
 -- 'BEGIN and END drop an open corner; END leaves no primitive begun', and of lines: 'BEGIN and END drop an open end'
-abbrev pub beginning : Machine → ℕ → Machine
+abbrev pub beginning : Machine → Option Primitive → Machine
 beginning m primitive =
-    record { context = m.context; calls = m.calls; depth = m.depth; primitive = primitive; at = m.at; corner = closed m.corner }
+    record { context = m.context; calls = m.calls; depth = m.depth; primitive = primitive; at = m.at; corner = None }
+
+-- a primitive that is not drawn is refused
+abbrev pub begins : Machine → Handles → Option Primitive → Obeys
+begins m hs (Some primitive) = quietly (beginning m (Some primitive)) hs
+begins m hs None = faulty m hs fault.NotDrawn
 
 abbrev pub clears : ℕ → ℕ → ℕ → Event
 clears colour stencil tag = e.Draw (s.Clear (record { colour = colour; stencil = stencil; tag = tag }))
@@ -82,9 +88,9 @@ obeys m hs (v.ScissorSize width height) = quietly (with_placing m (scissored_to 
 obeys m hs (v.Call dest) =
     cond (leb 4 m.depth) (faulty m hs fault.CallsTooDeep) (cond (eqb (dest % 4) 0) (telling m hs (e.Call dest)) (faulty m hs fault.NotAWord))
 obeys m hs (v.Jump dest) = cond (eqb (dest % 4) 0) (quietly (with_place m dest) hs) (faulty m hs fault.NotAWord)
-obeys m hs (v.Begin prim) = cond (drawn_primitive prim) (quietly (beginning m prim) hs) (faulty m hs fault.NotDrawn)
+obeys m hs (v.Begin prim) = begins m hs (drawn_primitive prim)
 obeys m hs (v.ColorMask r g b a) = quietly (with_masks m (colour_masked m.context.masks r g b a)) hs
-obeys m hs v.End = quietly (beginning m 0) hs
+obeys m hs v.End = quietly (beginning m None) hs
 obeys m hs v.SaveContext = telling m hs e.Save
 obeys m hs v.RestoreContext = telling m hs e.Restore
 obeys m hs v.Return = cond (eqb m.depth 0) (faulty m hs fault.NothingToReturnTo) (telling m hs e.Return)

@@ -99,8 +99,8 @@ cell_start h cell = h.source + cell * (h.stride * h.rows)
 abbrev pub aligned : Handle → Bool
 aligned h = eqb h.format 3 || eqb (h.source % 2) 0 && eqb (h.stride % 2) 0
 
--- not number 18, of a handle that its main words have set up: no stride, height, drawn width or drawn height of 0; the cell wholly in RAM_G, where the next
--- one would start no later than RAM_G ends; aligned
+-- not number 18, of a handle that its main words have set up: no stride, height, drawn width or drawn height of 0; the
+-- cell wholly in RAM_G, where the next one would start no later than RAM_G ends; aligned
 unfoldable pub drawable : Handle → ℕ → ℕ → Bool
 drawable h cell memory =
     ltb 0 h.stride && ltb 0 h.rows && ltb 0 h.width.0 && ltb 0 h.height.0 &&

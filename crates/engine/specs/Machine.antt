@@ -1,6 +1,5 @@
 -- The machine: how it starts, and one word read and obeyed. Document 01, 'Words and state' and the rows 11 and 12 of 'Number table'.
-use Rattle.std.specs.Prelude.{ℕ, pos, replicate, Result, Ok, Err}
-use Rattle.units.specs.Units.{sixteenth_at}
+use Rattle.std.specs.Prelude.{None, ℕ, replicate, Result, Ok, Err}
 use Rattle.words.specs.Words.{read_word}
 use Rattle.words.specs.declared.fault.WordFault.{WordFault}
 use Rattle.words.specs.declared.word.Word.{Word}
@@ -22,9 +21,9 @@ started =
       context = starting;
       calls = replicate 4 0;
       depth = 0;
-      primitive = 0;
+      primitive = None;
       at = 0;
-      corner = record { x = sixteenth_at (pos 0); y = sixteenth_at (pos 0); waits = 0 };
+      corner = None;
     }
 
 -- A WORD: 11 and 12 as it is read, else the command, and a vertex drawn

@@ -1,12 +1,15 @@
 -- A vertex: where its word places it, and what it draws with the primitive that is begun. Document 01, 'Words and state', from 'A corner is placed' to
 -- 'then the translation is added', and the rows 17 and 18 of 'Number table'; wish 1 of document 02.
-use Rattle.std.specs.Prelude.{cond, Option, Some, None, ℕ, ◌-◌, ◌*◌, ◌^◌, eqb, ℤ, pos, ◌+ℤ◌, ◌*ℤ◌}
+use Rattle.std.specs.Prelude.{cond, Option, Some, None, ℕ, ◌-◌, ◌*◌, ◌^◌, ℤ, pos, ◌+ℤ◌, ◌*ℤ◌}
 use Rattle.units.specs.Units.{sixteenth_at, meant_translation}
 use Rattle.action.specs.declared.shape.Bitmap.{Bitmap}
+use Rattle.action.specs.declared.shape.End.{End}
 use Rattle.action.specs.declared.shape.Segment.{Segment}
 use Rattle.action.specs.Corners.{corners_in_order}
 use Rattle.action.specs.Ends.{short_ends}
 use Rattle.engine.specs.declared.context.Placing.{Placing}
+use Rattle.engine.specs.declared.drawn.Primitive.{Primitive}
+use Rattle.engine.specs.declared.drawn.Primitive.TheVariants as p
 use Rattle.engine.specs.declared.fault.Fault.TheVariants as fault
 use Rattle.engine.specs.declared.handles.Handles.{Handles}
 use Rattle.engine.specs.declared.machine.Event.{Event}
@@ -14,7 +17,6 @@ use Rattle.engine.specs.declared.machine.Event.TheVariants as e
 use Rattle.engine.specs.declared.machine.Machine.{Machine}
 use Rattle.engine.specs.declared.machine.Shape.TheVariants as s
 use Rattle.engine.specs.declared.machine.Stepped.{Stepped}
-use Rattle.engine.specs.declared.vertex.Corner.{Corner}
 use Rattle.engine.specs.declared.vertex.Vertex.{Vertex}
 use Rattle.engine.specs.Changes.{with_corner}
 use Rattle.engine.specs.Handles.{bitmap_at}
@@ -41,18 +43,15 @@ placed2ii p x y handle cell =
       cell = cell;
     }
 
--- a corner or an end that waits for the second one, and one that does no longer
-abbrev pub opened_at : Vertex → Corner
-opened_at v = record { x = v.x; y = v.y; waits = 1 }
-
-abbrev pub closed : Corner → Corner
-closed c = record { x = c.x; y = c.y; waits = 0 }
+-- where a vertex lies
+abbrev pub end_at : Vertex → End
+end_at v = record { x = v.x; y = v.y }
 
 abbrev pub pointed : Vertex → ℕ → Event
 pointed v size = e.Draw (s.Point (record { x = v.x; y = v.y; size = record { 0 = size } }))
 
 -- 'corners are put in order, x and y apart'
-abbrev pub rectangled : Corner → Vertex → ℕ → Event
+abbrev pub rectangled : End → Vertex → ℕ → Event
 rectangled c v width = e.Draw (s.Rectangle (corners_in_order c.x c.y v.x v.y (record { 0 = width })))
 
 abbrev pub bitmapped : Option Bitmap → Event
@@ -60,37 +59,33 @@ bitmapped (Some b) = e.Draw (s.Bitmap b)
 bitmapped None = e.Fault fault.Undrawable
 
 -- the second corner draws, and a third vertex opens a new rectangle
-abbrev pub cornered : Machine → Vertex → Stepped
-cornered m v =
-    cond (eqb m.corner.waits 0)
-    (record { machine = with_corner m (opened_at v); event = e.Quiet })
-    (record {
-      machine = with_corner m (closed m.corner);
-      event = rectangled m.corner v m.context.placing.linewidth;
-    })
+abbrev pub cornered : Machine → Vertex → Option End → Stepped
+cornered m v None = record { machine = with_corner m (Some (end_at v)); event = e.Quiet }
+cornered m v (Some corner) = record { machine = with_corner m None; event = rectangled corner v m.context.placing.linewidth }
 
 -- LINES. 'Ends are placed as corners are and compared in the order given; a segment uses the state at its second end.'
-unfoldable pub segment_from : Corner → Vertex → ℕ → ℕ → Segment
-segment_from c v width primitive =
-    record { from = record { x = c.x; y = c.y }; to = record { x = v.x; y = v.y }; width = record { 0 = width }; primitive = primitive }
+unfoldable pub segment_from : End → Vertex → ℕ → ℕ → Segment
+segment_from from v width primitive = record { from = from; to = end_at v; width = record { 0 = width }; primitive = primitive }
 
 -- '20 when an end lies outside -32768..32767 sixteenths, .. at the vertex that completes the segment'
 unfoldable pub segmented : Segment → Event
 segmented d = cond (short_ends d) (e.Draw (s.Segment d)) (e.Fault fault.EndTooFar)
 
--- a vertex that finds no open end opens one; else it completes a segment and leaves `next`, open or closed
-abbrev pub linked : Machine → Vertex → Corner → Stepped
-linked m v next =
-    cond (eqb m.corner.waits 0)
-    (record { machine = with_corner m (opened_at v); event = e.Quiet })
-    (record { machine = with_corner m next; event = segmented (segment_from m.corner v m.context.placing.linewidth m.primitive) })
+-- a vertex that finds no open end opens one; else it completes a segment of the primitive's number and leaves `next`, an
+-- open end or none
+abbrev pub linked : Machine → Vertex → ℕ → Option End → Option End → Stepped
+linked m v primitive next None = record { machine = with_corner m (Some (end_at v)); event = e.Quiet }
+linked m v primitive next (Some from) =
+    record { machine = with_corner m next; event = segmented (segment_from from v m.context.placing.linewidth primitive) }
 
 -- 'In LINES vertices pair up; in a strip each vertex after the first ends a segment'. No primitive begun is 17
+abbrev pub drawn_by : Machine → Handles → ℕ → Vertex → Option Primitive → Stepped
+drawn_by m hs memory v (Some p.Bitmaps) = record { machine = m; event = bitmapped (bitmap_at hs v memory) }
+drawn_by m hs memory v (Some p.Points) = record { machine = m; event = pointed v m.context.placing.pointsize }
+drawn_by m hs memory v (Some p.Lines) = linked m v 3 None m.corner
+drawn_by m hs memory v (Some p.LineStrip) = linked m v 4 (Some (end_at v)) m.corner
+drawn_by m hs memory v (Some p.Rects) = cornered m v m.corner
+drawn_by m hs memory v None = record { machine = m; event = e.Fault fault.NothingBegun }
+
 unfoldable pub vertexed : Machine → Handles → ℕ → Vertex → Stepped
-vertexed m hs memory v =
-    cond (eqb m.primitive 1) (record { machine = m; event = bitmapped (bitmap_at hs v memory) })
-    (cond (eqb m.primitive 2) (record { machine = m; event = pointed v m.context.placing.pointsize })
-    (cond (eqb m.primitive 3) (linked m v (closed m.corner))
-    (cond (eqb m.primitive 4) (linked m v (opened_at v))
-    (cond (eqb m.primitive 9) (cornered m v)
-    (record { machine = m; event = e.Fault fault.NothingBegun })))))
+vertexed m hs memory v = drawn_by m hs memory v m.primitive

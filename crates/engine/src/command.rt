@@ -2,7 +2,7 @@
 ghost use Rattle.std.specs.Prelude.{◌≡◌};
 ghost use Rattle.engine.specs.Command.{clears, obeys};
 
-use crate::drawn::{is_drawn_format, is_drawn_primitive, is_drawn_size};
+use crate::drawn::{Primitive, is_drawn_format, is_drawn_size};
 use crate::fault::Fault;
 use crate::handles::{Handles, Layout, LayoutHigh, Size};
 use crate::machine::{Event, Flags, Machine, Shape};
@@ -25,12 +25,11 @@ pub struct Obeyed {
 fn clear_event(colour: u32, stencil: u32, tag: u32) -> Event
     ensures { result ≡ clears colour stencil tag }
 {
-    let flags = Flags {
-        colour: colour,
-        stencil: stencil,
-        tag: tag,
-    };
-    Event::Draw(Shape::Clear(flags))
+    Event::Draw(Shape::Clear(Flags {
+        colour,
+        stencil,
+        tag,
+    }))
 }
 
 impl Machine {
@@ -202,9 +201,9 @@ impl Machine {
                 }
             }
             Word::Begin { prim } => {
-                if is_drawn_primitive(prim) {
-                    self.primitive = prim;
-                    self.corner.waits = 0;
+                if let Some(primitive) = Primitive::of(prim) {
+                    self.primitive = Some(primitive);
+                    self.corner = None;
                     quiet
                 } else {
                     undrawn
@@ -218,8 +217,8 @@ impl Machine {
                 quiet
             }
             Word::End => {
-                self.primitive = 0;
-                self.corner.waits = 0;
+                self.primitive = None;
+                self.corner = None;
                 quiet
             }
             Word::SaveContext => Then::Tell(Event::Save),
@@ -251,20 +250,18 @@ impl Machine {
             }
             Word::PaletteSource { addr: _ } => undrawn,
             Word::VertexTranslateX { x } => {
-                let translation = units::translate(x);
-                self.context.placing.dx = translation;
+                self.context.placing.dx = units::translate(x);
                 quiet
             }
             Word::VertexTranslateY { y } => {
-                let translation = units::translate(y);
-                self.context.placing.dy = translation;
+                self.context.placing.dy = units::translate(y);
                 quiet
             }
             Word::Nop => quiet,
         };
         Obeyed {
             machine: self,
-            then: then,
+            then,
         }
     }
 }

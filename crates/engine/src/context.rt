@@ -104,10 +104,10 @@ impl Context {
             cell: 0,
         };
         Context {
-            brush: brush,
-            masks: masks,
-            clearing: clearing,
-            placing: placing,
+            brush,
+            masks,
+            clearing,
+            placing,
         }
     }
 
@@ -116,35 +116,30 @@ impl Context {
         ensures { result ≡ ink_of self.brush }
     {
         let b = self.brush;
-        let colour = Colour {
-            red: b.red,
-            green: b.green,
-            blue: b.blue,
-            alpha: b.alpha,
-        };
-        let alpha = AlphaTest {
-            test: Test::from(b.alphatest),
-            reference: b.alphareference,
-        };
-        let stencil = StencilTest {
-            test: Test::from(b.stenciltest),
-            reference: b.stencilreference,
-            mask: b.stencilmask,
-        };
-        let actions = StencilActions {
-            fail: StencilAction::from(b.fail),
-            pass: StencilAction::from(b.pass),
-        };
-        let blend = Blend {
-            source: Factor::from(b.source),
-            target: Factor::from(b.target),
-        };
         Ink {
-            colour: colour,
-            alpha: alpha,
-            stencil: stencil,
-            actions: actions,
-            blend: blend,
+            colour: Colour {
+                red: b.red,
+                green: b.green,
+                blue: b.blue,
+                alpha: b.alpha,
+            },
+            alpha: AlphaTest {
+                test: Test::from(b.alphatest),
+                reference: b.alphareference,
+            },
+            stencil: StencilTest {
+                test: Test::from(b.stenciltest),
+                reference: b.stencilreference,
+                mask: b.stencilmask,
+            },
+            actions: StencilActions {
+                fail: StencilAction::from(b.fail),
+                pass: StencilAction::from(b.pass),
+            },
+            blend: Blend {
+                source: Factor::from(b.source),
+                target: Factor::from(b.target),
+            },
             tag: b.tag,
         }
     }
@@ -157,8 +152,8 @@ impl Context {
         cover(
             Pixels::of(p.left),
             Pixels::of(p.top),
-            LengthInPixels(p.width as u64),
-            LengthInPixels(p.height as u64),
+            LengthInPixels(u64::from(p.width)),
+            LengthInPixels(u64::from(p.height)),
         )
     }
 }

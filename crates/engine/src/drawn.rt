@@ -7,7 +7,7 @@ ghost use Rattle.engine.specs.Drawn.{drawn_format, drawn_size, drawn_primitive};
 pub fn is_drawn_format(format: u32) -> bool
     ensures { result ≡ drawn_format format }
 {
-    (format == 0) | (format == 3) | (format == 7)
+    matches!(format, 0 | 3 | 7)
 }
 
 // Neither filter 1 nor a wrap 1.
@@ -15,13 +15,32 @@ pub fn is_drawn_format(format: u32) -> bool
 pub fn is_drawn_size(filter: u32, wrapx: u32, wrapy: u32) -> bool
     ensures { result ≡ drawn_size filter wrapx wrapy }
 {
-    (filter == 0) & (wrapx == 0) & (wrapy == 0)
+    filter == 0 && wrapx == 0 && wrapy == 0
 }
 
-// BITMAPS, POINTS, LINES, LINE_STRIP and RECTS.
-#[tactic(auto, unfolding(crate::specs::Drawn::drawn_primitive))]
-pub fn is_drawn_primitive(primitive: u32) -> bool
-    ensures { result ≡ drawn_primitive primitive }
-{
-    (primitive == 1) | (primitive == 2) | (primitive == 3) | (primitive == 4) | (primitive == 9)
+// The primitives that are drawn.
+#[derive(Clone, Copy)]
+pub enum Primitive {
+    Bitmaps,
+    Points,
+    Lines,
+    LineStrip,
+    Rects,
+}
+
+impl Primitive {
+    // The primitive of BEGIN's number, if it is drawn.
+    #[tactic(auto, unfolding(crate::specs::Drawn::drawn_primitive))]
+    pub fn of(number: u32) -> Option<Primitive>
+        ensures { result ≡ drawn_primitive number }
+    {
+        match number {
+            1 => Some(Primitive::Bitmaps),
+            2 => Some(Primitive::Points),
+            3 => Some(Primitive::Lines),
+            4 => Some(Primitive::LineStrip),
+            9 => Some(Primitive::Rects),
+            _ => None,
+        }
+    }
 }

@@ -29,8 +29,8 @@ pub struct Size {
     pub height: u32,
 }
 
-// What the words of one handle gave. Main word and H word keep their bits apart, since they come in any order; the high bits are 0 until
-// their word gives them.
+// What the words of one handle gave. Main word and H word keep their bits apart, since they come in any order; the high
+// bits are 0 until their word gives them.
 #[derive(Clone, Copy)]
 pub struct Settings {
     pub source: Option<u32>,
@@ -41,7 +41,7 @@ pub struct Settings {
 }
 
 #[derive(Drop)]
-pub struct Handles(pub [Settings; 32]);
+pub struct Handles([Settings; 32]);
 
 // What the words of one handle come to, main words and H words together.
 #[derive(Clone, Copy)]
@@ -73,7 +73,7 @@ fn joined(low: u32, high: u32, power: u32) -> u64
 
 impl Handles {
     // All handles unset, as a run starts.
-    pub fn unset() -> Handles
+    pub fn new() -> Handles
         ensures { result ≡ all_unset }
     {
         Handles([Settings {
@@ -92,35 +92,35 @@ impl Handles {
     }
 
     #[tactic(auto, unfolding(crate::specs::Handles::sourced))]
-    pub fn put_source(&mut self, handle: u32, address: u32)
+    pub(crate) fn put_source(&mut self, handle: u32, address: u32)
         ensures { self.new ≡ sourced self.old handle address }
     {
         self.0[place(handle)].source = Some(address);
     }
 
     #[tactic(auto, unfolding(crate::specs::Handles::laid_out))]
-    pub fn put_layout(&mut self, handle: u32, layout: Layout)
+    pub(crate) fn put_layout(&mut self, handle: u32, layout: Layout)
         ensures { self.new ≡ laid_out self.old handle layout }
     {
         self.0[place(handle)].layout = Some(layout);
     }
 
     #[tactic(auto, unfolding(crate::specs::Handles::sized))]
-    pub fn put_size(&mut self, handle: u32, size: Size)
+    pub(crate) fn put_size(&mut self, handle: u32, size: Size)
         ensures { self.new ≡ sized self.old handle size }
     {
         self.0[place(handle)].size = Some(size);
     }
 
     #[tactic(auto, unfolding(crate::specs::Handles::laid_out_high))]
-    pub fn put_layout_high(&mut self, handle: u32, high: LayoutHigh)
+    pub(crate) fn put_layout_high(&mut self, handle: u32, high: LayoutHigh)
         ensures { self.new ≡ laid_out_high self.old handle high }
     {
         self.0[place(handle)].layout_high = high;
     }
 
     #[tactic(auto, unfolding(crate::specs::Handles::sized_high))]
-    pub fn put_size_high(&mut self, handle: u32, high: Size)
+    pub(crate) fn put_size_high(&mut self, handle: u32, high: Size)
         ensures { self.new ≡ sized_high self.old handle high }
     {
         self.0[place(handle)].size_high = high;
@@ -148,7 +148,7 @@ impl Handles {
 
     // The bitmap that the vertex draws, or none for number 18.
     #[tactic(auto, unfolding(crate::specs::Handles::bitmap_at))]
-    pub fn bitmap(&self, v: Vertex, memory: u32) -> Option<Bitmap>
+    pub(crate) fn bitmap(&self, v: Vertex, memory: u32) -> Option<Bitmap>
         requires { memory ≤ most_memory }
         ensures { result ≡ bitmap_at self.now v memory }
     {
@@ -178,7 +178,7 @@ impl Handle {
         self.format == 3 || (self.source % 2 == 0 && self.stride % 2 == 0)
     }
 
-    // The bitmap that the vertex draws, or none for number 18.
+    // The bitmap that the vertex draws, or none for number 18. What is too large for its type lies past RAM_G's end.
     #[tactic(auto, unfolding(crate::specs::Handles::bitmap_of))]
     fn judge(self, v: Vertex, memory: u32) -> Option<Bitmap>
         requires { Narrow self × (memory ≤ most_memory) }

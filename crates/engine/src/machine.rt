@@ -4,24 +4,23 @@ ghost use Rattle.std.specs.Prelude.{◌≡◌, ◌≤◌};
 ghost use Rattle.engine.specs.Run.{most_memory};
 ghost use Rattle.engine.specs.Machine.{started, steps};
 
-use crate::command::Then;
+use crate::command::{Obeyed, Then};
 use crate::context::Context;
+use crate::drawn::Primitive;
 use crate::fault::Fault;
 use crate::handles::Handles;
-use crate::vertex::Corner;
-use action::{Bitmap, Point, Rectangle, Segment};
-use units::Sixteenths;
+use action::{Bitmap, End, Point, Rectangle, Segment};
 
-// `calls` holds the return addresses, newest first, and `depth` how many are open. `primitive` is BEGIN's number, 1 for BITMAPS, 2 for POINTS,
-// 3 for LINES, 4 for LINE_STRIP and 9 for RECTS, or 0 while none is begun.
+// `calls` holds the return addresses, newest first, and `depth` how many are open. `primitive` is the one that is begun,
+// and `corner` a rectangle's first corner or a line's first end that waits for the second one.
 #[derive(Clone, Copy)]
 pub struct Machine {
     pub context: Context,
     pub calls: [u32; 4],
     pub depth: u32,
-    pub primitive: u32,
+    pub primitive: Option<Primitive>,
     pub at: u32,
-    pub corner: Corner,
+    pub corner: Option<End>,
 }
 
 // Which of colour, stencil and tag CLEAR clears.
@@ -66,21 +65,13 @@ impl Machine {
     pub fn start() -> Machine
         ensures { result ≡ started }
     {
-        let context = Context::start();
-        let calls = [0; 4];
-        let edge = Sixteenths::of(0, 1);
-        let corner = Corner {
-            x: edge,
-            y: edge,
-            waits: 0,
-        };
         Machine {
-            context: context,
-            calls: calls,
+            context: Context::start(),
+            calls: [0; 4],
             depth: 0,
-            primitive: 0,
+            primitive: None,
             at: 0,
-            corner: corner,
+            corner: None,
         }
     }
 
@@ -92,14 +83,9 @@ impl Machine {
     {
         match words::read_word(bits) {
             Ok(word) => {
-                let obeyed = self.obey(handles, word);
-                let machine = obeyed.machine;
-                let then = obeyed.then;
+                let Obeyed { machine, then } = self.obey(handles, word);
                 match then {
-                    Then::Tell(event) => Stepped {
-                        machine: machine,
-                        event: event,
-                    },
+                    Then::Tell(event) => Stepped { machine, event },
                     Then::Place(v) => machine.vertex(handles, memory, v),
                 }
             }

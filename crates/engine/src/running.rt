@@ -50,7 +50,7 @@ impl<'a> Screen<'a> {
         Run {
             screen: *self,
             engine: Engine::start(),
-            handles: Handles::unset(),
+            handles: Handles::new(),
             left: self.limit,
         }
     }
@@ -59,7 +59,7 @@ impl<'a> Screen<'a> {
     pub fn finish(&self) -> Ending
         ensures { result ≡ ending_of (run_in self.now) }
     {
-        let mut handles = Handles::unset();
+        let mut handles = Handles::new();
         let memory = self.memory.len() as u32;
         let advanced = advance(
             Engine::start(),

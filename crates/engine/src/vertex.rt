@@ -2,9 +2,10 @@
 ghost use Rattle.std.specs.Prelude.{◌≡◌, ◌≤◌};
 ghost use Rattle.engine.specs.Handles.{bitmap_at};
 ghost use Rattle.engine.specs.Run.{most_memory};
-ghost use Rattle.engine.specs.Vertex.{unit_of, placed2f, placed2ii, opened_at, pointed, rectangled, bitmapped, segment_from, segmented, vertexed};
+ghost use Rattle.engine.specs.Vertex.{unit_of, placed2f, placed2ii, end_at, pointed, rectangled, bitmapped, segment_from, segmented, vertexed};
 
 use crate::context::Placing;
+use crate::drawn::Primitive;
 use crate::fault::Fault;
 use crate::handles::Handles;
 use crate::machine::{Event, Machine, Shape, Stepped};
@@ -20,12 +21,15 @@ pub struct Vertex {
     pub cell: u32,
 }
 
-// A rectangle's first corner or a line's first end; `waits` is 1 while it waits for the second one, else 0.
-#[derive(Clone, Copy)]
-pub struct Corner {
-    pub x: Sixteenths,
-    pub y: Sixteenths,
-    pub waits: u64,
+impl Vertex {
+    fn end(self) -> End
+        ensures { result ≡ end_at self }
+    {
+        End {
+            x: self.x,
+            y: self.y,
+        }
+    }
 }
 
 // How many sixteenths VERTEX2F counts by.
@@ -33,13 +37,7 @@ fn unit(frac: u32) -> u32
     ensures value { result ≡ unit_of frac }
     ensures upper_bound { result ≤ 16 }
 {
-    match frac {
-        0 => 16,
-        1 => 8,
-        2 => 4,
-        3 => 2,
-        _ => 1,
-    }
+    1 << 4u32.saturating_sub(frac)
 }
 
 #[tactic(auto, unfolding(crate::specs::Vertex::placed2f))]
@@ -47,11 +45,9 @@ pub fn place2f(p: Placing, x: i32, y: i32) -> Vertex
     ensures { result ≡ placed2f p x y }
 {
     let u = unit(p.frac);
-    let across = Sixteenths::of(x, u).moved(p.dx);
-    let down = Sixteenths::of(y, u).moved(p.dy);
     Vertex {
-        x: across,
-        y: down,
+        x: Sixteenths::of(x, u).moved(p.dx),
+        y: Sixteenths::of(y, u).moved(p.dy),
         handle: p.handle,
         cell: p.cell,
     }
@@ -61,73 +57,41 @@ pub fn place2f(p: Placing, x: i32, y: i32) -> Vertex
 pub fn place2ii(p: Placing, x: u32, y: u32, handle: u32, cell: u32) -> Vertex
     ensures { result ≡ placed2ii p x y handle cell }
 {
-    let across = Pixels::of(x).sample().moved(p.dx);
-    let down = Pixels::of(y).sample().moved(p.dy);
     Vertex {
-        x: across,
-        y: down,
-        handle: handle,
-        cell: cell,
-    }
-}
-
-// The segment from the open end to the vertex.
-#[tactic(auto, unfolding(crate::specs::Vertex::segment_from))]
-fn segment(c: Corner, v: Vertex, width: u32, primitive: u32) -> Segment
-    ensures { result ≡ segment_from c v width primitive }
-{
-    let cx = c.x;
-    let cy = c.y;
-    let vx = v.x;
-    let vy = v.y;
-    let from = End { x: cx, y: cy };
-    let to = End { x: vx, y: vy };
-    Segment {
-        from: from,
-        to: to,
-        width: LengthInSixteenths(width),
-        primitive: primitive,
-    }
-}
-
-fn opened_at(v: Vertex) -> Corner
-    ensures { result ≡ opened_at v }
-{
-    let x = v.x;
-    let y = v.y;
-    Corner {
-        x: x,
-        y: y,
-        waits: 1,
+        x: Pixels::of(x).sample().moved(p.dx),
+        y: Pixels::of(y).sample().moved(p.dy),
+        handle,
+        cell,
     }
 }
 
 fn point_event(v: Vertex, size: u32) -> Event
     ensures { result ≡ pointed v size }
 {
-    let x = v.x;
-    let y = v.y;
-    let point = Point {
-        x: x,
-        y: y,
+    Event::Draw(Shape::Point(Point {
+        x: v.x,
+        y: v.y,
         size: LengthInSixteenths(size),
-    };
-    Event::Draw(Shape::Point(point))
+    }))
 }
 
-fn rectangle_event(c: Corner, v: Vertex, width: u32) -> Event
+fn rectangle_event(c: End, v: Vertex, width: u32) -> Event
     ensures { result ≡ rectangled c v width }
 {
-    let corner = End { x: c.x, y: c.y };
-    let opposite = End { x: v.x, y: v.y };
-    Event::Draw(Shape::Rectangle(Rectangle::of(corner, opposite, LengthInSixteenths(width))))
+    Event::Draw(Shape::Rectangle(Rectangle::of(c, v.end(), LengthInSixteenths(width))))
 }
 
-#[tactic(auto, unfolding(crate::specs::Vertex::segmented))]
-fn segment_event(c: Corner, v: Vertex, width: u32, primitive: u32) -> Event
-    ensures { result ≡ segmented (segment_from c v width primitive) }
+// The segment from the open end to the vertex.
+#[tactic(auto, unfolding(crate::specs::Vertex::segmented, crate::specs::Vertex::segment_from))]
+fn segment_event(from: End, v: Vertex, width: u32, primitive: u32) -> Event
+    ensures { result ≡ segmented (segment_from from v width primitive) }
 {
-    let drawn = segment(c, v, width, primitive);
+    let drawn = Segment {
+        from,
+        to: v.end(),
+        width: LengthInSixteenths(width),
+        primitive,
+    };
     if drawn.is_short() {
         return Event::Draw(Shape::Segment(drawn));
     }
@@ -151,47 +115,32 @@ impl Machine {
         requires { memory ≤ most_memory }
         ensures { result ≡ vertexed self handles.now memory v }
     {
-        let primitive = self.primitive;
-        let event = match primitive {
-            1 => bitmap_event(handles, v, memory),
-            2 => point_event(v, self.context.placing.pointsize),
-            3 => {
-                let corner = self.corner;
-                if corner.waits == 0 {
-                    let opened = opened_at(v);
-                    self.corner = opened;
+        let event = match self.primitive {
+            Some(Primitive::Bitmaps) => bitmap_event(handles, v, memory),
+            Some(Primitive::Points) => point_event(v, self.context.placing.pointsize),
+            Some(Primitive::Lines) => match self.corner.take() {
+                Some(from) => segment_event(from, v, self.context.placing.linewidth, 3),
+                None => {
+                    self.corner = Some(v.end());
                     Event::Quiet
-                } else {
-                    self.corner.waits = 0;
-                    segment_event(corner, v, self.context.placing.linewidth, 3)
                 }
-            }
-            4 => {
-                let corner = self.corner;
-                let next = opened_at(v);
-                self.corner = next;
-                if corner.waits == 0 {
+            },
+            Some(Primitive::LineStrip) => match self.corner.replace(v.end()) {
+                Some(from) => segment_event(from, v, self.context.placing.linewidth, 4),
+                None => Event::Quiet,
+            },
+            Some(Primitive::Rects) => match self.corner.take() {
+                Some(corner) => rectangle_event(corner, v, self.context.placing.linewidth),
+                None => {
+                    self.corner = Some(v.end());
                     Event::Quiet
-                } else {
-                    segment_event(corner, v, self.context.placing.linewidth, 4)
                 }
-            }
-            9 => {
-                let corner = self.corner;
-                if corner.waits == 0 {
-                    let opened = opened_at(v);
-                    self.corner = opened;
-                    Event::Quiet
-                } else {
-                    self.corner.waits = 0;
-                    rectangle_event(corner, v, self.context.placing.linewidth)
-                }
-            }
-            _ => Event::Fault(Fault::NothingBegun),
+            },
+            None => Event::Fault(Fault::NothingBegun),
         };
         Stepped {
             machine: self,
-            event: event,
+            event,
         }
     }
 }

@@ -1,10 +1,9 @@
 -- Each of the 48 commands leaves a valid machine and valid handles, and draws only what is orderly. Assumes nothing.
-use mathlib.Core.Path.{refl}
-use mathlib.Core.Logic.{inl, inr}
 use Prim.Native.Nat.{ℕ, ◌%◌, ◌<◌}
 use native.Mathlib.Omega.{arith}
 use lib.Dec.{eqb, leb}
 use borrow.Author.Tests.{leb-true, leb-false, eqb-true}
+use Rattle.std.specs.Prelude.{Option, Some, None}
 use Rattle.truth.proofs.Bools.{by-test}
 use Rattle.action.specs.declared.ink.ClearValues.{ClearValues}
 use Rattle.action.specs.declared.ink.Masks.{Masks}
@@ -13,6 +12,7 @@ use Rattle.words.specs.Table.{rows}
 use Rattle.engine.specs.declared.context.Brush.{Brush}
 use Rattle.engine.specs.declared.context.Context.{Context}
 use Rattle.engine.specs.declared.context.Placing.{Placing}
+use Rattle.engine.specs.declared.drawn.Primitive.{Primitive}
 use Rattle.engine.specs.declared.handles.Handles.{Handles}
 use Rattle.engine.specs.declared.machine.Event.{Event}
 use Rattle.engine.specs.declared.machine.Event.TheVariants as e
@@ -20,7 +20,7 @@ use Rattle.engine.specs.declared.machine.Machine.{Machine}
 use Rattle.engine.specs.declared.command.Then.{Then}
 use Rattle.engine.specs.declared.command.Then.TheVariants as t
 use Rattle.engine.specs.Changes.{with_brush, with_masks, with_clearing, with_placing}
-use Rattle.engine.specs.Command.{Obeys, quietly, obeys}
+use Rattle.engine.specs.Command.{Obeys, quietly, begins, obeys}
 use Rattle.engine.specs.Drawn.{drawn_format, drawn_size, drawn_primitive}
 use Rattle.engine.specs.Run.{drawing_of}
 use Rattle.invariant.specs.Actions.{Orderly}
@@ -99,9 +99,9 @@ module _ (m : Machine) (hs : Handles) (v : ValidMachine m) (k : ValidHandles hs)
   unfolding obeys
   jump dest = by-test ValidObeys (eqb (dest % 4) 0) (λ a. quiet (with-place v dest (eqb-true _ _ a))) (λ a. untouched tt)
 
-  begin : (primitive : ℕ) → ValidObeys (obeys m hs (w.Begin primitive))
-  unfolding obeys
-  begin primitive = by-test ValidObeys (drawn_primitive primitive) (λ d. quiet (with-primitive v primitive (inr d))) (λ d. untouched tt)
+  begin : (drawn : Option Primitive) → ValidObeys (begins m hs drawn)
+  begin (Some primitive) = quiet (with-primitive v (Some primitive))
+  begin None = untouched tt
 
   back : ValidObeys (obeys m hs w.Return)
   unfolding obeys
@@ -144,9 +144,9 @@ module _ (m : Machine) (hs : Handles) (v : ValidMachine m) (k : ValidHandles hs)
       (λ width h height i. placing (search (arith, leb-true))) and
       (λ dest _. call dest) and
       (λ dest _. jump dest) and
-      (λ primitive _. begin primitive) and
+      (λ primitive _. begin (drawn_primitive primitive)) and
       (λ red h green i blue j alpha l. masks (search arith)) and
-      quiet (with-primitive v 0 (inl refl)) and
+      quiet (with-primitive v None) and
       untouched tt and
       untouched tt and
       back and

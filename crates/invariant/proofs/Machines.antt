@@ -1,22 +1,21 @@
 -- A valid machine with one part changed is valid. Assumes nothing.
-use mathlib.Core.Path.{◌≡◌, refl}
-use mathlib.Core.Bool.{true}
+use mathlib.Core.Path.{refl}
 use mathlib.Core.List.{◌∷◌}
-use mathlib.Core.Logic.{◌⊎◌}
 use Prim.Native.Nat.{ℕ, ◌<◌}
 use native.Mathlib.Omega.{arith}
 use lib.IntN.{ℤ}
 use lib.ListN.{length-take, length-drop, length-append}
 use Rattle.units.specs.Units.{meant_translation, translation_at}
 use Rattle.units.proofs.Meaning.{translation-of}
+use Rattle.std.specs.Prelude.{Option}
+use Rattle.action.specs.declared.shape.End.{End}
 use Rattle.engine.specs.declared.context.Context.{Context}
+use Rattle.engine.specs.declared.drawn.Primitive.{Primitive}
 use Rattle.engine.specs.declared.kept.Engine.{Engine}
 use Rattle.engine.specs.declared.machine.Machine.{Machine}
-use Rattle.engine.specs.declared.vertex.Corner.{Corner}
 use Rattle.engine.specs.Changes.{with_context, with_place, with_corner}
 use Rattle.engine.specs.Command.{beginning}
 use Rattle.engine.specs.Context.{starting}
-use Rattle.engine.specs.Drawn.{drawn_primitive}
 use Rattle.engine.specs.Kept.{called, returned}
 use Rattle.words.specs.Fields.{InBits}
 use Rattle.invariant.specs.State.{ValidContext, Aligned, ValidMachine}
@@ -37,11 +36,11 @@ module _ {m : Machine} (v : ValidMachine m) where
   pub with-place : (to : ℕ) → Aligned to → ValidMachine (with_place m to)
   with-place to h = search
 
-  pub with-corner : (c : Corner) → ValidMachine (with_corner m c)
+  pub with-corner : (c : Option End) → ValidMachine (with_corner m c)
   with-corner c = search
 
-  pub with-primitive : (primitive : ℕ) → (primitive ≡ 0) ⊎ (drawn_primitive primitive ≡ true) → ValidMachine (beginning m primitive)
-  with-primitive primitive h = search
+  pub with-primitive : (primitive : Option Primitive) → ValidMachine (beginning m primitive)
+  with-primitive primitive = search
 
 -- CALL and RETURN, of an engine's machine
 module _ (x : Engine) (v : ValidMachine x.now) where
@@ -53,7 +52,6 @@ module _ (x : Engine) (v : ValidMachine x.now) where
     returns = each_take Aligned 4 (x.now.at ∷ x.now.calls) (v.place, v.returns);
     calls = simp length-take (omega arith);
     depth = omega arith;
-    primitive = v.primitive;
   }
 
   pub with-return : ValidMachine (returned x).now
@@ -64,5 +62,4 @@ module _ (x : Engine) (v : ValidMachine x.now) where
     returns = each-moved Aligned x.now.calls 0 refl v.returns;
     calls = simp (length-append, length-drop) (omega arith);
     depth = omega arith;
-    primitive = v.primitive;
   }

@@ -1,7 +1,6 @@
 -- Every state that a run comes to is valid. Assumes nothing.
 use mathlib.Core.Path.{refl}
 use mathlib.Core.List.{List}
-use mathlib.Core.Logic.{inl}
 use Prim.Native.Nat.{ℕ, zero, suc}
 use native.Mathlib.Omega.{arith}
 use Rattle.engine.specs.Run.{at_start}
@@ -21,7 +20,6 @@ start-valid = record {
         returns = (refl, (refl, (refl, (refl, tt))));
         calls = refl;
         depth = omega arith;
-        primitive = inl refl;
       };
   kept = (starting-valid, (starting-valid, (starting-valid, (starting-valid, tt))));
   whole = kept-as-said.start-whole;

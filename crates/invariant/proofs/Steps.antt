@@ -7,28 +7,31 @@ use lib.Dec.{eqb, ltb}
 use Rattle.truth.proofs.Bools.{by-test}
 use Rattle.std.specs.Prelude.{Option, Some, None}
 use Rattle.action.specs.declared.shape.Bitmap.{Bitmap}
+use Rattle.action.specs.declared.shape.End.{End}
 use Rattle.action.specs.declared.shape.Segment.{Segment}
 use Rattle.action.specs.Ends.{short_ends}
 use Rattle.action.proofs.Corners.{corners-in-order}
 use Rattle.engine.specs.declared.context.Context.{Context}
+use Rattle.engine.specs.declared.drawn.Primitive.{Primitive}
+use Rattle.engine.specs.declared.drawn.Primitive.TheVariants as p
 use Rattle.engine.specs.declared.handles.Handles.{Handles}
 use Rattle.engine.specs.declared.vertex.Vertex.{Vertex}
 use Rattle.engine.specs.declared.kept.Engine.{Engine}
 use Rattle.engine.specs.declared.kept.Kept.{Kept}
-use Rattle.engine.specs.declared.vertex.Corner.{Corner}
 use Rattle.engine.specs.declared.machine.Event.{Event}
 use Rattle.engine.specs.declared.machine.Event.TheVariants as e
 use Rattle.engine.specs.declared.machine.Machine.{Machine}
 use Rattle.engine.specs.declared.machine.Stepped.{Stepped}
 use Rattle.engine.specs.declared.command.Then.{Then}
 use Rattle.engine.specs.declared.command.Then.TheVariants as t
+use Rattle.engine.specs.Changes.{with_corner}
 use Rattle.engine.specs.Command.{obeys}
 use Rattle.engine.specs.Context.{starting}
 use Rattle.engine.specs.Handles.{bitmap_at}
 use Rattle.engine.specs.Kept.{kept_with, newest, dropped, pushed, popped, called, returned}
 use Rattle.engine.specs.Machine.{Steps, follows, steps_by, steps}
 use Rattle.engine.specs.Run.{drawing_of, State, place_of, step_of, event_of, settled, next_of}
-use Rattle.engine.specs.Vertex.{bitmapped, segmented, closed, opened_at, linked, cornered, vertexed}
+use Rattle.engine.specs.Vertex.{bitmapped, segmented, linked, cornered, drawn_by, vertexed}
 use Rattle.engine.proofs.Saves.{kept-as-said}
 use Rattle.invariant.specs.Each.{Each}
 use Rattle.invariant.specs.State.{ValidContext, ValidMachine, ValidHandles, Valid}
@@ -54,26 +57,27 @@ bitmap-orderly m None = tt
 
 -- it changes nothing but the open corner or end
 module _ (m : Machine) (valid : ValidMachine m) where
-  end-valid : (v : Vertex) (next : Corner) → ValidStepped (linked m v next)
-  end-valid v next =
-      by-test ValidStepped (eqb m.corner.waits 0) (λ w. record { machine = with-corner valid (opened_at v); event = tt })
-      (λ w. record { machine = with-corner valid next; event = segment-orderly (record m { corner = next }) _ })
+  end-valid : (v : Vertex) (primitive : ℕ) (next from : Option End) → ValidStepped (linked m v primitive next from)
+  end-valid v primitive next None = record { machine = with-corner valid _; event = tt }
+  end-valid v primitive next (Some from) = record { machine = with-corner valid next; event = segment-orderly (with_corner m next) _ }
 
-  corner-valid : (v : Vertex) → ValidStepped (cornered m v)
+  corner-valid : (v : Vertex) (corner : Option End) → ValidStepped (cornered m v corner)
   unfolding drawing_of
-  corner-valid v =
-      by-test ValidStepped (eqb m.corner.waits 0) (λ w. record { machine = with-corner valid (opened_at v); event = tt })
-      (λ w. record { machine = with-corner valid (closed m.corner); event = λ c. corners-in-order m.corner.x m.corner.y v.x v.y _ })
+  corner-valid v None = record { machine = with-corner valid _; event = tt }
+  corner-valid v (Some corner) = record { machine = with-corner valid None; event = λ c. corners-in-order corner.x corner.y v.x v.y _ }
+
+  drawn-valid : (hs : Handles) (memory : ℕ) (v : Vertex) (primitive : Option Primitive) → ValidStepped (drawn_by m hs memory v primitive)
+  unfolding drawing_of
+  drawn-valid hs memory v (Some p.Bitmaps) = record { machine = valid; event = bitmap-orderly m (bitmap_at hs v memory) }
+  drawn-valid hs memory v (Some p.Points) = record { machine = valid; event = λ c. tt }
+  drawn-valid hs memory v (Some p.Lines) = end-valid v 3 None m.corner
+  drawn-valid hs memory v (Some p.LineStrip) = end-valid v 4 _ m.corner
+  drawn-valid hs memory v (Some p.Rects) = corner-valid v m.corner
+  drawn-valid hs memory v None = record { machine = valid; event = tt }
 
   vertex-valid : (hs : Handles) (memory : ℕ) (v : Vertex) → ValidStepped (vertexed m hs memory v)
-  unfolding vertexed drawing_of
-  vertex-valid hs memory v =
-      by-test ValidStepped (eqb m.primitive 1) (λ p. record { machine = valid; event = bitmap-orderly m (bitmap_at hs v memory) })
-      (λ p. by-test ValidStepped (eqb m.primitive 2) (λ p. record { machine = valid; event = λ c. tt })
-      (λ p. by-test ValidStepped (eqb m.primitive 3) (λ p. end-valid v (closed m.corner))
-      (λ p. by-test ValidStepped (eqb m.primitive 4) (λ p. end-valid v (opened_at v))
-      (λ p. by-test ValidStepped (eqb m.primitive 9) (λ p. corner-valid v)
-      (λ p. record { machine = valid; event = tt })))))
+  unfolding vertexed
+  vertex-valid hs memory v = drawn-valid hs memory v m.primitive
 
 -- A WORD
 pub record ValidSteps (s : Steps) : Type 0 where

@@ -1,7 +1,7 @@
 -- WHAT A RUN'S STATE KEEPS: one invariant, of the state before the first word and after each word. Every number of it is one that a word can give: by
 -- row 12 of document 01's 'Number table' where that speaks of it, else by the width of its field in the guide. The definitions of `engine` lean on
 -- it: they make a test, an action, a factor or a format of a kept number, take frac from 4, and fetch words at multiples of 4.
-use Rattle.std.specs.Prelude.{◌≡◌, true, Some, List, ◌⊎◌, ℕ, zero, suc, ◌%◌, ◌≤◌, ◌<◌, length}
+use Rattle.std.specs.Prelude.{◌≡◌, true, Some, List, ℕ, zero, suc, ◌%◌, ◌≤◌, ◌<◌, length}
 use Rattle.units.specs.Units.{meant_translation}
 use Rattle.action.specs.declared.ink.ClearValues.{ClearValues}
 use Rattle.action.specs.declared.ink.Masks.{Masks}
@@ -12,7 +12,7 @@ use Rattle.engine.specs.declared.context.Placing.{Placing}
 use Rattle.engine.specs.declared.handles.Handles.{Handles}
 use Rattle.engine.specs.declared.handles.Layout.{Layout}
 use Rattle.engine.specs.declared.machine.Machine.{Machine}
-use Rattle.engine.specs.Drawn.{drawn_format, drawn_primitive}
+use Rattle.engine.specs.Drawn.{drawn_format}
 use Rattle.engine.specs.Handles.{settings_at}
 use Rattle.engine.specs.Run.{State, next_of, at_start, run_of}
 use Rattle.engine.specs.Saves.{Whole}
@@ -71,8 +71,9 @@ pub record ValidContext (c : Context) : Type 0 where
   pub clearing : ValidClearing c.clearing
   pub placing : ValidPlacing c.placing
 
--- THE MACHINE. Row 16: 'CALL or JUMP target not a multiple of 4', so that every place is one, and every return address; row 14: 'fifth open CALL'. Row
--- 13 refuses a BEGIN that is not drawn: the primitive is drawn, or 0 while none is begun, which is what row 17 asks
+-- THE MACHINE. Row 16: 'CALL or JUMP target not a multiple of 4', so that every place is one, and every return address;
+-- row 14: 'fifth open CALL'. Row 13 refuses a BEGIN that is not drawn: that the primitive is drawn, or none is begun,
+-- which is what row 17 asks, its type says
 abbrev pub Aligned : ℕ → Type 0
 Aligned place = place % 4 ≡ 0
 
@@ -82,7 +83,6 @@ pub record ValidMachine (m : Machine) : Type 0 where
   pub returns : Each Aligned m.calls
   pub calls : length m.calls ≡ 4
   pub depth : m.depth ≤ 4
-  pub primitive : (m.primitive ≡ 0) ⊎ (drawn_primitive m.primitive ≡ true)
 
 -- THE HANDLES. Row 13 refuses a BITMAP_LAYOUT with a format that is not drawn
 pub record ValidHandles (hs : Handles) : Type 0 where

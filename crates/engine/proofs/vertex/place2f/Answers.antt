@@ -12,6 +12,6 @@ returns c =
     let a = c.args in
     let e : to_z w32 (of_z w32 a.x) ≡ a.x = search rules in
     let f : to_z w32 (of_z w32 a.y) ≡ a.y = search rules in
-    let x = moved_at c.of.ensures c.moved-across.ensures in
-    let y = moved_at c.of-2.ensures c.moved-down.ensures in
+    let x = moved_at c.of.ensures c.moved.ensures in
+    let y = moved_at c.of-2.ensures c.moved-2.ensures in
     rw (x, y, c.unit-u.ensures.value, e, f)

@@ -5,6 +5,6 @@ use Rattle.engine.proofs.vertex.place2ii.Goals as goal
 pub returns : goal.returns
 unfolding placed2ii
 returns c =
-    let x = sampled-moved-at c.of.ensures c.sample.ensures c.moved-across.ensures in
-    let y = sampled-moved-at c.of-2.ensures c.sample-2.ensures c.moved-down.ensures in
+    let x = sampled-moved-at c.of.ensures c.sample.ensures c.moved.ensures in
+    let y = sampled-moved-at c.of-2.ensures c.sample-2.ensures c.moved-2.ensures in
     rw (x, y)

@@ -3,4 +3,4 @@ use Rattle.engine.proofs.screen.Screen.run.Goals as goal
 
 pub returns : goal.returns
 unfolding actions_left
-returns c = rw (c.start.ensures, c.unset.ensures)
+returns c = rw (c.start.ensures, c.new.ensures)
