@@ -76,9 +76,9 @@ module _ (outline : Outline) (scissor : Area) (width : ℕ) (q : Pixels) where
     to = omega arith;
   }
 
-  pub reach-off : between scissor.top.0 scissor.bottom.0 q.0 ≡ false → Reached outline scissor width q no_column
+  pub reach_off : between scissor.top.0 scissor.bottom.0 q.0 ≡ false → Reached outline scissor width q no_column
   unfolding reaches area_covers
-  reach-off row = record {
+  reach_off row = record {
     exact = λ x h.
         rw (row, and-false) (sym (has-none (pixel_at x)));
     from = omega arith;

@@ -36,22 +36,14 @@ at-sample s p e = ap (λ (n : ℕ). record { 0 = n }) e
 pub sample-close : (p q : Pixels) → OnScreen p.0 → OnScreen q.0 → Close (sample_at p q)
 sample-close p q h k = ((omega arith, omega arith), (omega arith, omega arith))
 
-pub leg-small : (r a b : ℕ) → r ≡ (a - b) + (b - a) → (short_from ≤ a) × (a < short_to) → (short_from ≤ b) × (b < short_to) → r * r ≤ 65535 * 65535
-leg-small r a b e h k = square_le {b = 65535} (omega arith)
+pub leg_small : (r a b : ℕ) → r ≡ (a - b) + (b - a) → (short_from ≤ a) × (a < short_to) → (short_from ≤ b) × (b < short_to) → r * r ≤ 65535 * 65535
+leg_small r a b e h k = square_le {b = 65535} (omega arith)
 
 -- the product of two numbers, by their sum
 pub product_small : (x y sum : ℕ) → x + y ≤ sum → sum < 2 ^ 33 → x * y < 2 ^ 64
 product_small x y sum l m =
     let s : (x + y) * (x + y) ≤ (2 ^ 33 - 1) * (2 ^ 33 - 1) = square_le {b = 2 ^ 33 - 1} (omega arith) in
     omega (arith, two-squares x y)
-
-pub halves_small : (rest : ℕ) → rest < 2 ^ 33 → rest / 2 * (rest - rest / 2) < 2 ^ 64
-halves_small rest l =
-    let s : rest / 2 * (rest - rest / 2) ≤ (2 ^ 32 - 1) * 2 ^ 32 = mul-le-mul {n₂ = 2 ^ 32 - 1} {m₂ = 2 ^ 32} (omega arith) (omega arith) in
-    omega arith
-
-pub short-product : (a b : ℕ) → a < 2 ^ 16 → b < 2 ^ 16 → a * b ≤ 65535 * 65535
-short-product a b h k = mul-le-mul {n₂ = 65535} {m₂ = 65535} (omega arith) (omega arith)
 
 pub slack-small : (w r : ℕ) → w < 2 ^ 32 → r ≤ 131070 → w * r ≤ (2 ^ 32 - 1) * 131070
 slack-small w r h k = mul-le-mul {n₂ = 2 ^ 32 - 1} {m₂ = 131070} (omega arith) k

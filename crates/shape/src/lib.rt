@@ -15,10 +15,10 @@ use units::{Pixels, Sixteenths};
 // No pixel from here on has a sample of 64 bits.
 const PIXELS: u64 = 0x1000_0000_0000_0000;
 
-const LAST_SIXTEENTH: u64 = 0xFFFF_FFFF_FFFF_FFFF;
+const LAST_SIXTEENTH: u64 = u64::MAX;
 
 // No size is larger.
-const LONGEST: u64 = 0xFFFF_FFFF;
+const LONGEST: u64 = u32::MAX as u64;
 
 #[derive(Clone, Copy)]
 pub enum Outline {
@@ -85,10 +85,11 @@ impl Chord {
     }
 
     // Whether it holds every column, so that none needs to be asked about.
+    #[tactic(auto, using(crate::proofs::Columns::flat_holds))]
     pub fn is_flat(self) -> bool
         ensures { Flat self result }
     {
-        (self.near.0 == 0) & ((self.far.0 == LAST_SIXTEENTH) & (0 < self.room))
+        self.near.0 == 0 && self.far.0 == LAST_SIXTEENTH && 0 < self.room
     }
 
     // Each column from the one to the other.
@@ -112,6 +113,7 @@ impl Chord {
         Chord::flat(edge, edge)
     }
 
+    #[tactic(auto, using(crate::proofs::Columns::area_has, crate::proofs::Columns::area_off))]
     fn of_area(area: Area, q: Pixels) -> Chord
         ensures { Chords (Outline.Area area) q result }
     {
@@ -153,6 +155,7 @@ impl Chord {
 }
 
 impl Rows<Pixels> {
+    #[tactic(auto, using(crate::proofs::Columns::rectangle_rows))]
     fn of_rectangle(rectangle: Rectangle) -> Rows<Pixels>
         ensures { Bounds (Outline.Rectangle rectangle) result }
     {
@@ -165,6 +168,7 @@ impl Rows<Pixels> {
 
 impl Outline {
     // What is covered of row q, and of a segment what the rectangle around it covers.
+    #[tactic(auto, using(crate::proofs::Columns::nothing_has, crate::proofs::Columns::everything_has, crate::proofs::Columns::point_has))]
     fn on_row(self, q: Pixels) -> Chord
         requires { Sampled q }
         ensures { Chords (boxed self) q result }
@@ -180,6 +184,7 @@ impl Outline {
     }
 
     // The rows outside of which nothing is covered.
+    #[tactic(auto, using(crate::proofs::Columns::nothing_rows, crate::proofs::Columns::point_rows, crate::proofs::Columns::area_rows, crate::proofs::Narrowing::segment_rows))]
     pub fn rows(self) -> Rows<Pixels>
         ensures { Bounds self result }
     {
@@ -203,6 +208,7 @@ impl Outline {
     }
 
     // Of the columns that the chord has, those that are covered.
+    #[tactic(auto, using(crate::proofs::Narrowing::plain_narrows))]
     fn narrow(self, chord: Chord, q: Pixels) -> Chord
         requires { OnScreen q.0 × Shown chord }
         ensures { Narrows self q chord result }

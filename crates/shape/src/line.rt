@@ -24,6 +24,7 @@ pub fn around(segment: Segment) -> Rectangle
 }
 
 // The squared distance of two places.
+#[tactic(auto, unfolding(crate::specs::Cover::squared), using(crate::proofs::Sizes::leg_small))]
 fn squared(a: End, b: End) -> u64
     requires { Close a × Close b }
     ensures value { result ≡ squared a b }
@@ -37,14 +38,12 @@ fn squared(a: End, b: End) -> u64
 // Whether a segment comes near enough to a sample, by squares: a and b of the sample's distances to the ends, `length` of theirs. Let a and b be too large by
 // x and y. The mean of the ends by weights k and n is near enough exactly if k * k * x + n * n * y is at most k * n times what x and y leave of the length,
 // and some k and n make it so exactly if 4 * x * y is at most the square of that rest.
+#[tactic(auto, unfolding(crate::specs::Lines::by_squares), using(crate::proofs::Sizes::product_small))]
 fn by_squares(a: u64, b: u64, length: u64, enough: u64) -> bool
     requires { (a < 2 ^ 33) × ((b < 2 ^ 33) × (length < 2 ^ 33)) }
     ensures { result ≡ by_squares a b length enough }
 {
-    if a <= enough {
-        return true;
-    }
-    if b <= enough {
+    if a <= enough || b <= enough {
         return true;
     }
     let x = a - enough;
