@@ -1,4 +1,5 @@
-// What an action covers, colours apart: row by row, so that a painter asks about few rows, and about few columns of each.
+// What an action covers, colours apart: row by row, so that a painter asks about few rows, and about few columns of
+// each.
 #![tactic(auto)]
 
 ghost use Rattle.std.specs.Prelude.{◌≡◌};
@@ -30,8 +31,8 @@ pub enum Outline {
     Segment(Segment),
 }
 
-// One row of an outline. No column left of `left` or from `right` on is covered, and one between them is exactly if its sample is not too far from
-// `near`..`far`: the squared distance is below `room`.
+// One row of an outline. No column left of `left` or from `right` on is covered, and one between them is exactly if its
+// sample is not too far from `near`..`far`: the squared distance is below `room`.
 #[derive(Clone, Copy)]
 pub struct Chord {
     pub left: Pixels,
