@@ -24,7 +24,7 @@ use Rattle.shape.proofs.Columns.{has_flat, has-none}
 use Rattle.shape.proofs.Means.{NearSome, some-mean, weighed, unweighed}
 use Rattle.shape.proofs.Order.{by_order}
 use Rattle.shape.proofs.Reaching.{reach-cut}
-use Rattle.shape.proofs.Sizes.{ends_close, sample-close}
+use Rattle.shape.proofs.Sizes.{ends_close, sample_close}
 use Rattle.shape.proofs.Squares.{within-legs}
 use Rattle.shape.proofs.Spans.{convex, box-near, slope}
 use Rattle.shape.proofs.Weights.{Near, first-end, second-end, rest-left, within-rest, rest-near, quarter, unquarter}
@@ -141,7 +141,7 @@ module _ (d : Segment) (p q : Pixels) where
     on_line c leans e =
         let h = covered-near e in
         let near = ends_close d short in
-        let sample = sample-close p q onx ony in
+        let sample = sample_close p q onx ony in
         let legs = within-legs _ _ _ h.near in
         let across = axis h.k h.n d.width.0 d.from.x d.to.x (record { 0 = 16 * p.0 }) near.0.0 near.1.0 sample.0 legs.0 in
         let down = axis h.k h.n d.width.0 d.from.y d.to.y (record { 0 = 16 * q.0 }) near.0.1 near.1.1 sample.1 legs.1 in

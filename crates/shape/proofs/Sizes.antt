@@ -33,8 +33,8 @@ ends_close d h = let t = both_true _ _ h in (end-close d.from t.0, end-close d.t
 pub at-sample : (s : Sixteenths) (p : Pixels) → s.0 ≡ 16 * p.0 → s ≡ sampled p
 at-sample s p e = ap (λ (n : ℕ). record { 0 = n }) e
 
-pub sample-close : (p q : Pixels) → OnScreen p.0 → OnScreen q.0 → Close (sample_at p q)
-sample-close p q h k = ((omega arith, omega arith), (omega arith, omega arith))
+pub sample_close : (p q : Pixels) → OnScreen p.0 → OnScreen q.0 → Close (sample_at p q)
+sample_close p q h k = ((omega arith, omega arith), (omega arith, omega arith))
 
 pub leg_small : (r a b : ℕ) → r ≡ (a - b) + (b - a) → (short_from ≤ a) × (a < short_to) → (short_from ≤ b) × (b < short_to) → r * r ≤ 65535 * 65535
 leg_small r a b e h k = square_le {b = 65535} (omega arith)
@@ -45,5 +45,5 @@ product_small x y sum l m =
     let s : (x + y) * (x + y) ≤ (2 ^ 33 - 1) * (2 ^ 33 - 1) = square_le {b = 2 ^ 33 - 1} (omega arith) in
     omega (arith, two-squares x y)
 
-pub slack-small : (w r : ℕ) → w < 2 ^ 32 → r ≤ 131070 → w * r ≤ (2 ^ 32 - 1) * 131070
-slack-small w r h k = mul-le-mul {n₂ = 2 ^ 32 - 1} {m₂ = 131070} (omega arith) k
+pub slack_small : (w r : ℕ) → w < 2 ^ 32 → r ≤ 131070 → w * r ≤ (2 ^ 32 - 1) * 131070
+slack_small w r h k = mul-le-mul {n₂ = 2 ^ 32 - 1} {m₂ = 131070} (omega arith) k

@@ -58,6 +58,7 @@ fn by_squares(a: u64, b: u64, length: u64, enough: u64) -> bool
 }
 
 // Whether the segment covers the pixel.
+#[tactic(auto, using(crate::proofs::Sizes::ends_close, crate::proofs::Sizes::sample_close))]
 fn covers(segment: Segment, p: Pixels, q: Pixels) -> bool
     requires { (short_ends segment ≡ true) × (OnScreen p.0 × OnScreen q.0) }
     ensures { result ≡ segment_covers segment p q }
@@ -127,6 +128,7 @@ fn leaning(a: Place, b: Place, y: u64, slack: u64) -> Chord
 
 // The columns in which row q comes near the line through the ends: times the rise, no further across than the width
 // times the ends' distances across and down together, which are at least their distance.
+#[tactic(auto, using(crate::proofs::Sizes::ends_close, crate::proofs::Sizes::slack_small))]
 fn near_line(segment: Segment, q: Pixels) -> Chord
     requires { (short_ends segment ≡ true) × OnScreen q.0 }
     ensures { Between segment q result.left.0 result.right.0 }
