@@ -1,7 +1,7 @@
 -- No product of the test is too large for 64 bits. Assumes nothing.
 use mathlib.Core.Path.{◌≡◌, ap}
 use mathlib.Core.Bool.{true}
-use Prim.Native.Nat.{ℕ, ◌+◌, ◌-◌, ◌*◌, ◌^◌, ◌≤◌, ◌<◌}
+use Prim.Native.Nat.{ℕ, ◌+◌, ◌-◌, ◌*◌, ◌/◌, ◌^◌, ◌≤◌, ◌<◌}
 use native.Mathlib.Nat.{mul-le-mul}
 use native.Mathlib.Omega.{arith}
 use borrow.Author.Tests.{leb-true, ltb-true}
@@ -44,6 +44,11 @@ pub product_small : (x y sum : ℕ) → x + y ≤ sum → sum < 2 ^ 33 → x * y
 product_small x y sum l m =
     let s : (x + y) * (x + y) ≤ (2 ^ 33 - 1) * (2 ^ 33 - 1) = square_le {b = 2 ^ 33 - 1} (omega arith) in
     omega (arith, two-squares x y)
+
+pub halves_small : (rest : ℕ) → rest < 2 ^ 33 → rest / 2 * (rest - rest / 2) < 2 ^ 64
+halves_small rest l =
+    let s : rest / 2 * (rest - rest / 2) ≤ (2 ^ 32 - 1) * 2 ^ 32 = mul-le-mul {n₂ = 2 ^ 32 - 1} {m₂ = 2 ^ 32} (omega arith) (omega arith) in
+    omega arith
 
 pub slack_small : (w r : ℕ) → w < 2 ^ 32 → r ≤ 131070 → w * r ≤ (2 ^ 32 - 1) * 131070
 slack_small w r h k = mul-le-mul {n₂ = 2 ^ 32 - 1} {m₂ = 131070} (omega arith) k

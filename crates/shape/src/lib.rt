@@ -237,6 +237,11 @@ impl Outline {
         ensures { result ≡ reaches_row self scissor width q }
     {
         let chord = self.reach(scissor, width, q);
-        (chord.left.0..chord.right.0).any(|x| chord.holds(Pixels(x)))
+        for x in chord.left.0..chord.right.0 {
+            if chord.holds(Pixels(x)) {
+                return true;
+            }
+        }
+        false
     }
 }
