@@ -5,17 +5,13 @@ use Prim.Native.Nat.{ℕ, ◌<◌, ◌≤◌}
 use native.Mathlib.Omega.{arith}
 use Rattle.truth.proofs.Bools.{both_true}
 use Rattle.units.specs.declared.Pixels.{Pixels}
-use Rattle.units.specs.Units.{PixelOf, count_before, larger, pixel_at, smaller, tallest, widest}
+use Rattle.units.specs.Units.{count_before, larger, pixel_at, smaller, tallest, widest}
 use Rattle.action.specs.declared.shape.Area.{Area}
 use Rattle.shape.specs.declared.Outline.{Outline}
 use Rattle.shape.specs.declared.Rows.{Rows}
 use Rattle.shape.specs.Cover.{area_covers, between, covers, reaches}
-use Rattle.shape.specs.OneRow.{Bounds, InFrame}
+use Rattle.shape.specs.OneRow.{Bounds}
 use Rattle.shape.proofs.Bools.{between-true}
-
--- a row of a frame
-pub row-in-frame : {width y : ℕ} {q : Pixels} → width ≤ widest → y < tallest → PixelOf y q → InFrame width q
-row-in-frame w l e = (w, (omega (arith, e.kept), omega (arith, e.kept, l)))
 
 -- a row from a pixel on, and one before it, by the count of rows before that pixel
 from_on : (p : Pixels) (y : ℕ) → p.0 ≤ (pixel_at y).0 → count_before tallest p ≤ y

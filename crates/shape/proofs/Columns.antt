@@ -3,8 +3,8 @@ use mathlib.Core.Path.{◌≡◌, sym, ◌∙◌}
 use mathlib.Core.Bool.{true, false, ◌&&◌, and-true, and-false}
 use Prim.Native.Nat.{ℕ, ◌+◌, ◌-◌, ◌*◌, ◌^◌, ◌≤◌, ◌<◌}
 use native.Mathlib.Omega.{arith}
-use lib.Dec.{eqb, ltb}
-use borrow.Author.Tests.{lt-ltb, le-ltb, eqb-true}
+use lib.Dec.{ltb}
+use borrow.Author.Tests.{lt-ltb, le-ltb}
 use Rattle.truth.proofs.Bools.{and-implied, both_true, never}
 use Rattle.units.specs.declared.LengthInSixteenths.{LengthInSixteenths}
 use Rattle.units.specs.declared.Pixels.{Pixels}
@@ -32,23 +32,19 @@ has_flat left right p h =
     rw e (and-true _)
 
 -- no sample of 64 bits lies outside of the widest range
-pub flat-holds : (c : Chord) → (eqb c.near.0 0 && (eqb c.far.0 (2 ^ 64 - 1) && ltb 0 c.room)) ≡ true → (p : Pixels) → Sampled p → holds_in c p ≡ true
+pub flat_holds : (c : Chord) → c.near.0 ≡ 0 → c.far.0 ≡ 2 ^ 64 - 1 → 0 < c.room → (p : Pixels) → Sampled p → holds_in c p ≡ true
 unfolding holds_in near_enough
-flat-holds c t p h =
-    let a = both_true (eqb c.near.0 0) (eqb c.far.0 (2 ^ 64 - 1) && ltb 0 c.room) t in
-    let b = both_true (eqb c.far.0 (2 ^ 64 - 1)) (ltb 0 c.room) a.1 in
-    let near : c.near.0 ≡ 0 = eqb-true c.near.0 0 a.0 in
-    let far : c.far.0 ≡ 2 ^ 64 - 1 = eqb-true c.far.0 (2 ^ 64 - 1) b.0 in
+flat_holds c near far room p h =
     let e : outside (sampled p) c.near c.far ≡ 0 = omega arith in
-    rw (e, b.1)
+    rw (e, lt-ltb 0 c.room room)
 
-pub nothing-has : (q : Pixels) → Chords o.Nothing q no_column
+pub nothing_has : (q : Pixels) → Chords o.Nothing q no_column
 unfolding covers
-nothing-has q = record { exact = λ p h. sym (has-none p) }
+nothing_has q = record { exact = λ p h. sym (has-none p) }
 
-pub everything-has : (q : Pixels) → Chords o.Everything q (flat_over (record { 0 = 0 }) unsampled)
+pub everything_has : (q : Pixels) → Chords o.Everything q (flat_over (record { 0 = 0 }) unsampled)
 unfolding covers
-everything-has q = record {
+everything_has q = record {
   exact = λ p h.
       sym (has_flat (record { 0 = 0 }) unsampled p h ∙ between-made 0 unsampled.0 p.0 (omega arith) h);
 }
@@ -59,9 +55,9 @@ area_off a q e = record {
   exact = λ p h. rw e (and-false (between a.left.0 a.right.0 p.0) ∙ sym (has-none p));
 }
 
-pub area-has : (a : Area) (q : Pixels) → between a.top.0 a.bottom.0 q.0 ≡ true → Chords (o.Area a) q (flat_over a.left a.right)
+pub area_has : (a : Area) (q : Pixels) → between a.top.0 a.bottom.0 q.0 ≡ true → Chords (o.Area a) q (flat_over a.left a.right)
 unfolding covers area_covers
-area-has a q e = record { exact = λ p h. rw e (and-true _ ∙ sym (has_flat a.left a.right p h)) }
+area_has a q e = record { exact = λ p h. rw e (and-true _ ∙ sym (has_flat a.left a.right p h)) }
 
 -- the pixels that can be reached from a range, along one axis: one law for columns and rows
 reached-between : (p : Pixels) (low high : Sixteenths) (reach : LengthInSixteenths) → outside (sampled p) low high ≤ reach.0 → ((first_near low reach).0 ≤ p.0) × (p.0 < (end_near high reach).0)
@@ -109,31 +105,28 @@ square-covers d p q =
     let y : spaced (sampled q) d.y ≡ outside (sampled q) d.y d.y = omega arith in
     rw (x, y)
 
-pub point-has : (d : Point) (q : Pixels) (c : Chord) → Chords (o.Rectangle (square_of d)) q c → Chords (o.Point d) q c
-point-has d q c h = record { exact = λ p k. square-covers d p q ∙ h.exact p k }
+pub point_has : (d : Point) (q : Pixels) (c : Chord) → Chords (o.Rectangle (square_of d)) q c → Chords (o.Point d) q c
+point_has d q c h = record { exact = λ p k. square-covers d p q ∙ h.exact p k }
 
 -- the rows
-pub rectangle-rows : (d : Rectangle) (r : Rows Pixels) → r.top.0 ≤ (first_near d.top d.width).0 → (end_near d.bottom d.width).0 ≤ r.bottom.0 → Bounds (o.Rectangle d) r
+pub rectangle_rows : (d : Rectangle) (r : Rows Pixels) → r.top.0 ≤ (first_near d.top d.width).0 → (end_near d.bottom d.width).0 ≤ r.bottom.0 → Bounds (o.Rectangle d) r
 unfolding covers rectangle_covers
-rectangle-rows d r t b = record {
+rectangle_rows d r t b = record {
   bound = λ p q h k e.
       let m = reached-between q d.top d.bottom d.width (within-legs _ _ _ e).1 in
       (omega arith, omega arith);
 }
 
-pub point-rows : (d : Point) (r : Rows Pixels) → Bounds (o.Rectangle (square_of d)) r → Bounds (o.Point d) r
-point-rows d r h = record { bound = λ p q k l e. h.bound p q k l (sym (square-covers d p q) ∙ e) }
+pub point_rows : (d : Point) (r : Rows Pixels) → Bounds (o.Rectangle (square_of d)) r → Bounds (o.Point d) r
+point_rows d r h = record { bound = λ p q k l e. h.bound p q k l (sym (square-covers d p q) ∙ e) }
 
-pub nothing-rows : (r : Rows Pixels) → Bounds o.Nothing r
+pub nothing_rows : (r : Rows Pixels) → Bounds o.Nothing r
 unfolding covers
-nothing-rows r = record { bound = λ p q h k e. never e }
+nothing_rows r = record { bound = λ p q h k e. never e }
 
-pub everything-rows : Bounds o.Everything (record { top = record { 0 = 0 }; bottom = unsampled })
-everything-rows = record { bound = λ p q h k e. (omega arith, k) }
-
-pub area-rows : (a : Area) → Bounds (o.Area a) (record { top = a.top; bottom = a.bottom })
+pub area_rows : (a : Area) → Bounds (o.Area a) (record { top = a.top; bottom = a.bottom })
 unfolding covers area_covers
-area-rows a = record {
+area_rows a = record {
   bound = λ p q h k e.
       between-true a.top.0 a.bottom.0 q.0
       (both_true (between a.left.0 a.right.0 p.0) (between a.top.0 a.bottom.0 q.0) e).1;

@@ -24,7 +24,7 @@ use Rattle.shape.proofs.Columns.{has_flat, has-none}
 use Rattle.shape.proofs.Means.{NearSome, some-mean, weighed, unweighed}
 use Rattle.shape.proofs.Order.{by_order}
 use Rattle.shape.proofs.Reaching.{reach-cut}
-use Rattle.shape.proofs.Sizes.{ends_close, sample-close}
+use Rattle.shape.proofs.Sizes.{ends_close, sample_close}
 use Rattle.shape.proofs.Squares.{within-legs}
 use Rattle.shape.proofs.Spans.{convex, box-near, slope}
 use Rattle.shape.proofs.Weights.{Near, first-end, second-end, rest-left, within-rest, rest-near, quarter, unquarter}
@@ -141,7 +141,7 @@ module _ (d : Segment) (p q : Pixels) where
     on_line c leans e =
         let h = covered-near e in
         let near = ends_close d short in
-        let sample = sample-close p q onx ony in
+        let sample = sample_close p q onx ony in
         let legs = within-legs _ _ _ h.near in
         let across = axis h.k h.n d.width.0 d.from.x d.to.x (record { 0 = 16 * p.0 }) near.0.0 near.1.0 sample.0 legs.0 in
         let down = axis h.k h.n d.width.0 d.from.y d.to.y (record { 0 = 16 * q.0 }) near.0.1 near.1.1 sample.1 legs.1 in
@@ -170,13 +170,14 @@ no_gap d q x y z l m e f =
     (covered-near d (record { 0 = x }) q e)
     (covered-near d (record { 0 = z }) q f))
 
+-- the column is covered, or is not
+abbrev pub Covers : Segment → Pixels → ℕ → Type 0
+Covers d q x = segment_covers d (record { 0 = x }) q ≡ true
+
+abbrev pub Misses : Segment → Pixels → ℕ → Type 0
+Misses d q x = segment_covers d (record { 0 = x }) q ≡ false
+
 module _ (d : Segment) (q : Pixels) (c : Chord) (shown : Shown c) (line : Chord) (all : Between d q line.left.0 line.right.0) (from end : ℕ) (low : from ≡ larger c.left.0 line.left.0) (high : end ≡ smaller c.right.0 line.right.0) where
-  abbrev Covers : ℕ → Type 0
-  Covers x = segment_covers d (record { 0 = x }) q ≡ true
-
-  abbrev Misses : ℕ → Type 0
-  Misses x = segment_covers d (record { 0 = x }) q ≡ false
-
   module _ (scissor : Area) (width : ℕ) (whole : Chord) (fits : width ≤ widest) (row : between scissor.top.0 scissor.bottom.0 q.0 ≡ true) (has : Chords (o.Rectangle (box_of d)) q whole) (cut : c ≡ cut_to scissor width whole) where
     left : c.left.0 ≡ (cut_to scissor width whole).left.0
     left = ap (λ (z : Chord). z.left.0) cut
@@ -185,7 +186,7 @@ module _ (d : Segment) (q : Pixels) (c : Chord) (shown : Shown c) (line : Chord)
     right = ap (λ (z : Chord). z.right.0) cut
 
     -- a column that counts lies in the frame, in the scissor, in the box and near the line
-    counts : (x : ℕ) → x < width → reaches (o.Segment d) scissor (pixel_at x) q ≡ true → ((from ≤ (pixel_at x).0) × ((pixel_at x).0 < end)) × Covers (pixel_at x).0
+    counts : (x : ℕ) → x < width → reaches (o.Segment d) scissor (pixel_at x) q ≡ true → ((from ≤ (pixel_at x).0) × ((pixel_at x).0 < end)) × Covers d q (pixel_at x).0
     unfolding reaches covers area_covers
     counts x h e =
         let t = both_true _ (segment_covers d (pixel_at x) q) e in
@@ -195,7 +196,7 @@ module _ (d : Segment) (q : Pixels) (c : Chord) (shown : Shown c) (line : Chord)
         let s = all.all (pixel_at x) (omega arith, omega arith) t.1 in
         ((omega (arith, left), omega (arith, right)), t.1)
 
-    none-reached : ((x : ℕ) → from ≤ x → x < end → Misses x) → Reached (o.Segment d) scissor width q no_column
+    none-reached : ((x : ℕ) → from ≤ x → x < end → Misses d q x) → Reached (o.Segment d) scissor width q no_column
     none-reached none = record {
       exact = λ x h.
           not_so _ (λ e. let t = counts x h e in never (sym (none _ t.0.0 t.0.1) ∙ t.1))
@@ -204,7 +205,7 @@ module _ (d : Segment) (q : Pixels) (c : Chord) (shown : Shown c) (line : Chord)
       to = omega arith;
     }
 
-    module _ (first last : ℕ) (f : (from ≤ first) × (first < end) × Covers first × ((x : ℕ) → from ≤ x → x < first → Misses x)) (l : (first ≤ last) × (last < end) × Covers last × ((x : ℕ) → last < x → x < end → Misses x)) where
+    module _ (first last : ℕ) (f : (from ≤ first) × (first < end) × Covers d q first × ((x : ℕ) → from ≤ x → x < first → Misses d q x)) (l : (first ≤ last) × (last < end) × Covers d q last × ((x : ℕ) → last < x → x < end → Misses d q x)) where
       -- the columns lie in the frame and in the scissor
       inside : (((pixel_at 0).0 ≤ first) × (scissor.left.0 ≤ first)) × ((last < (pixel_at width).0) × (last < scissor.right.0))
       inside = ((omega (arith, left, f.0), omega (arith, left, f.0)), (omega (arith, right, l.1), omega (arith, right, l.1)))
@@ -232,15 +233,15 @@ module _ (d : Segment) (q : Pixels) (c : Chord) (shown : Shown c) (line : Chord)
       }
 
   -- what the two searches for the first and the last covered column find
-  pub none-narrow : ((x : ℕ) → from ≤ x → x < end → Misses x) → Narrows (o.Segment d) q c no_column
+  pub none-narrow : ((x : ℕ) → from ≤ x → x < end → Misses d q x) → Narrows (o.Segment d) q c no_column
   none-narrow none = record { reached = λ scissor width whole fits row has cut. none-reached scissor width whole fits row has cut none }
 
-  pub columns-narrow : (first last : ℕ) → (from ≤ first) × (first < end) × Covers first × ((x : ℕ) → from ≤ x → x < first → Misses x) → (first ≤ last) × (last < end) × Covers last × ((x : ℕ) → last < x → x < end → Misses x) → Narrows (o.Segment d) q c (flat_over (record { 0 = first }) (record { 0 = last + 1 }))
+  pub columns-narrow : (first last : ℕ) → (from ≤ first) × (first < end) × Covers d q first × ((x : ℕ) → from ≤ x → x < first → Misses d q x) → (first ≤ last) × (last < end) × Covers d q last × ((x : ℕ) → last < x → x < end → Misses d q x) → Narrows (o.Segment d) q c (flat_over (record { 0 = first }) (record { 0 = last + 1 }))
   columns-narrow first last f l = record { reached = λ scissor width whole fits row has cut. columns-reached scissor width whole fits row has cut first last f l }
 
 -- what is no segment is its own box
-pub plain-narrows : (outline : Outline) (q : Pixels) (c : Chord) → ((d : Segment) → outline ≡ o.Segment d → ⊥) → Narrows outline q c c
-plain-narrows outline q c plain = record { reached = λ scissor width whole fits row has cut. rw cut (reach-cut outline scissor width q whole (omega arith) row (own outline plain has)) }
+pub plain_narrows : (outline : Outline) (q : Pixels) (c : Chord) → ((d : Segment) → outline ≡ o.Segment d → ⊥) → Narrows outline q c c
+plain_narrows outline q c plain = record { reached = λ scissor width whole fits row has cut. rw cut (reach-cut outline scissor width q whole (omega arith) row (own outline plain has)) }
   where
     own : {whole : Chord} (outline : Outline) → ((d : Segment) → outline ≡ o.Segment d → ⊥) → Chords (boxed outline) q whole → Chords outline q whole
     own o.Nothing plain has = has
@@ -262,6 +263,6 @@ far-narrows d q c far = record {
       };
 }
 
-pub segment-rows : (d : Segment) (r : Rows Pixels) → Bounds (o.Rectangle (box_of d)) r → Bounds (o.Segment d) r
+pub segment_rows : (d : Segment) (r : Rows Pixels) → Bounds (o.Rectangle (box_of d)) r → Bounds (o.Segment d) r
 unfolding covers
-segment-rows d r h = record { bound = λ p q k l e. h.bound p q k l (box-covers d p q e) }
+segment_rows d r h = record { bound = λ p q k l e. h.bound p q k l (box-covers d p q e) }

@@ -7,7 +7,6 @@ use native.Mathlib.Omega.{arith}
 use native.Mathlib.Nat.{not-suc-le-zero}
 use lib.Dec.{ltb}
 use borrow.Author.Tests.{ltb-true, ltb-false}
-use Rattle.std.specs.Bool.{MatchBool}
 use Rattle.truth.proofs.Bools.{both-made, both_true, never, not_so, same_truth}
 use Rattle.units.specs.declared.Pixels.{Pixels}
 use Rattle.units.specs.Units.{displacement, larger, pixel_at, smaller}
@@ -76,9 +75,9 @@ module _ (outline : Outline) (scissor : Area) (width : ℕ) (q : Pixels) where
     to = omega arith;
   }
 
-  pub reach-off : between scissor.top.0 scissor.bottom.0 q.0 ≡ false → Reached outline scissor width q no_column
+  pub reach_off : between scissor.top.0 scissor.bottom.0 q.0 ≡ false → Reached outline scissor width q no_column
   unfolding reaches area_covers
-  reach-off row = record {
+  reach_off row = record {
     exact = λ x h.
         rw (row, and-false) (sym (has-none (pixel_at x)));
     from = omega arith;
@@ -105,7 +104,10 @@ module _ (outline : Outline) (scissor : Area) (width : ℕ) (q : Pixels) where
         let b = between-true c.left.0 c.right.0 (pixel_at x).0 u.0 in
         never (sym (none (pixel_at x).0 b.0 b.1) ∙ u.1)))
 
-    -- so that the row is reached exactly if one of the chord's columns is held
-    pub row-any : (r : Bool) → MatchBool r ((x : ℕ) × (c.left.0 ≤ x) × (x < c.right.0) × (holds_in c (record { 0 = x }) ≡ true)) ((x : ℕ) → c.left.0 ≤ x → x < c.right.0 → holds_in c (record { 0 = x }) ≡ false) → r ≡ reaches_row outline scissor width q
-    row-any true h = sym (row-found h.0 h.1 h.2 h.3)
-    row-any false h = sym (row-not-found h)
+-- one column more that is not held
+pub none_more : (c : Chord) (x : ℕ) → ((k : ℕ) → c.left.0 ≤ k → k < x → holds_in c (record { 0 = k }) ≡ false) → holds_in c (record { 0 = x }) ≡ false → (k : ℕ) → c.left.0 ≤ k → k < x + 1 → holds_in c (record { 0 = k }) ≡ false
+none_more c x before here k h l = go (last-or-before k x (omega arith))
+  where
+    go : (k < x) ⊎ (k ≡ x) → holds_in c (record { 0 = k }) ≡ false
+    go (inl m) = before k h m
+    go (inr e) = rw e here

@@ -1,34 +1,23 @@
--- What a search through a range of numbers finds. Assumes nothing.
+-- What a search through a range of numbers finds, from its end. Assumes nothing.
 use mathlib.Core.Path.{◌≡◌, refl, sym, subst, ap, ◌∙◌}
 use mathlib.Core.Bool.{Bool, true, false}
 use mathlib.Core.List.{List, [], ◌∷◌}
-use Prim.Native.Nat.{ℕ, ◌+◌, ◌-◌, ◌≤◌, ◌<◌}
+use Prim.Native.Nat.{ℕ, ◌≤◌, ◌<◌}
 use native.Mathlib.Omega.{arith}
-use lib.ListN.{length}
 use denote.Ref.{Bor}
 use denote.Param.Members.{Mut}
-use Rattle.std.specs.Bool.{⊤, MatchBool}
+use Rattle.std.specs.Bool.{⊤}
 use Rattle.std.specs.Fn.{CalledAt}
 use Rattle.std.specs.Iterator.{Yields, YieldsThen}
 use Rattle.std.specs.Iterator.Adapters.{rev_source, rev_steps}
-use Rattle.std.specs.List.{range_with_len, AllWithin, FoldsTo, HoldsAt}
+use Rattle.std.specs.List.{FoldsTo}
 use Rattle.std.specs.Option.{MatchOption, unwrap_or}
 use Rattle.std.specs.declared.iter.Rev.{Rev}
 use Rattle.std.specs.declared.ops.Range.{Range}
 use Rattle.std.specs.declared.option.Option.{Option}
 use Rattle.std.specs.declared.option.Option.TheVariants.{None, Some}
 use Rattle.std.proofs.iter.runs.Sources.{nat_range_steps_back}
-use Rattle.std.proofs.lemmas.List.FromFn.{length-range_with_len, get_or-range_with_len}
 use Rattle.shape.proofs.Order.{by_order}
-
--- what `any` says of a range's list, said of its numbers
-pub any-in : (a b : ℕ) (r : Bool) (Yes No : ℕ → Type 0) → MatchBool r ((k : ℕ) × (k < length (range_with_len a (b - a))) × HoldsAt Yes (range_with_len a (b - a)) k) (AllWithin No (range_with_len a (b - a)) 0 (length (range_with_len a (b - a)))) → MatchBool r ((x : ℕ) × (a ≤ x) × (x < b) × Yes x) ((x : ℕ) → a ≤ x → x < b → No x)
-any-in a b true Yes No h =
-    let i : h.0 < b - a = omega (arith, h.1, length-range_with_len a (b - a)) in
-    (a + h.0, omega arith, omega arith, subst Yes (get_or-range_with_len a (b - a) h.0 0 i) (h.2 0))
-any-in a b false Yes No h = λ x l m.
-    subst No (let e = get_or-range_with_len a (b - a) (x - a) 0 (omega arith) in omega arith)
-    (h (x - a) 0 (omega arith) (omega (arith, length-range_with_len a (b - a))))
 
 -- `rev().find` through a range, whose first number passes, finds the last one that does
 module _ {F : Type 0} {g : Mut F (Bor ℕ × Unit {0}) Bool} (f : F) (Yes No : ℕ → Type 0)

@@ -33,11 +33,11 @@ ends_close d h = let t = both_true _ _ h in (end-close d.from t.0, end-close d.t
 pub at-sample : (s : Sixteenths) (p : Pixels) → s.0 ≡ 16 * p.0 → s ≡ sampled p
 at-sample s p e = ap (λ (n : ℕ). record { 0 = n }) e
 
-pub sample-close : (p q : Pixels) → OnScreen p.0 → OnScreen q.0 → Close (sample_at p q)
-sample-close p q h k = ((omega arith, omega arith), (omega arith, omega arith))
+pub sample_close : (p q : Pixels) → OnScreen p.0 → OnScreen q.0 → Close (sample_at p q)
+sample_close p q h k = ((omega arith, omega arith), (omega arith, omega arith))
 
-pub leg-small : (r a b : ℕ) → r ≡ (a - b) + (b - a) → (short_from ≤ a) × (a < short_to) → (short_from ≤ b) × (b < short_to) → r * r ≤ 65535 * 65535
-leg-small r a b e h k = square_le {b = 65535} (omega arith)
+pub leg_small : (r a b : ℕ) → r ≡ (a - b) + (b - a) → (short_from ≤ a) × (a < short_to) → (short_from ≤ b) × (b < short_to) → r * r ≤ 65535 * 65535
+leg_small r a b e h k = square_le {b = 65535} (omega arith)
 
 -- the product of two numbers, by their sum
 pub product_small : (x y sum : ℕ) → x + y ≤ sum → sum < 2 ^ 33 → x * y < 2 ^ 64
@@ -50,8 +50,5 @@ halves_small rest l =
     let s : rest / 2 * (rest - rest / 2) ≤ (2 ^ 32 - 1) * 2 ^ 32 = mul-le-mul {n₂ = 2 ^ 32 - 1} {m₂ = 2 ^ 32} (omega arith) (omega arith) in
     omega arith
 
-pub short-product : (a b : ℕ) → a < 2 ^ 16 → b < 2 ^ 16 → a * b ≤ 65535 * 65535
-short-product a b h k = mul-le-mul {n₂ = 65535} {m₂ = 65535} (omega arith) (omega arith)
-
-pub slack-small : (w r : ℕ) → w < 2 ^ 32 → r ≤ 131070 → w * r ≤ (2 ^ 32 - 1) * 131070
-slack-small w r h k = mul-le-mul {n₂ = 2 ^ 32 - 1} {m₂ = 131070} (omega arith) k
+pub slack_small : (w r : ℕ) → w < 2 ^ 32 → r ≤ 131070 → w * r ≤ (2 ^ 32 - 1) * 131070
+slack_small w r h k = mul-le-mul {n₂ = 2 ^ 32 - 1} {m₂ = 131070} (omega arith) k

@@ -1,4 +1,5 @@
-// What an action covers, colours apart: row by row, so that a painter asks about few rows, and about few columns of each.
+// What an action covers, colours apart: row by row, so that a painter asks about few rows, and about few columns of
+// each.
 #![tactic(auto)]
 
 ghost use Rattle.std.specs.Prelude.{◌≡◌};
@@ -15,10 +16,10 @@ use units::{Pixels, Sixteenths};
 // No pixel from here on has a sample of 64 bits.
 const PIXELS: u64 = 0x1000_0000_0000_0000;
 
-const LAST_SIXTEENTH: u64 = 0xFFFF_FFFF_FFFF_FFFF;
+const LAST_SIXTEENTH: u64 = u64::MAX;
 
 // No size is larger.
-const LONGEST: u64 = 0xFFFF_FFFF;
+const LONGEST: u64 = u32::MAX as u64;
 
 #[derive(Clone, Copy)]
 pub enum Outline {
@@ -30,8 +31,8 @@ pub enum Outline {
     Segment(Segment),
 }
 
-// One row of an outline. No column left of `left` or from `right` on is covered, and one between them is exactly if its sample is not too far from
-// `near`..`far`: the squared distance is below `room`.
+// One row of an outline. No column left of `left` or from `right` on is covered, and one between them is exactly if its
+// sample is not too far from `near`..`far`: the squared distance is below `room`.
 #[derive(Clone, Copy)]
 pub struct Chord {
     pub left: Pixels,
@@ -85,10 +86,11 @@ impl Chord {
     }
 
     // Whether it holds every column, so that none needs to be asked about.
+    #[tactic(auto, using(crate::proofs::Columns::flat_holds))]
     pub fn is_flat(self) -> bool
         ensures { Flat self result }
     {
-        (self.near.0 == 0) & ((self.far.0 == LAST_SIXTEENTH) & (0 < self.room))
+        self.near.0 == 0 && self.far.0 == LAST_SIXTEENTH && 0 < self.room
     }
 
     // Each column from the one to the other.
@@ -112,6 +114,7 @@ impl Chord {
         Chord::flat(edge, edge)
     }
 
+    #[tactic(auto, using(crate::proofs::Columns::area_has, crate::proofs::Columns::area_off))]
     fn of_area(area: Area, q: Pixels) -> Chord
         ensures { Chords (Outline.Area area) q result }
     {
@@ -153,6 +156,7 @@ impl Chord {
 }
 
 impl Rows<Pixels> {
+    #[tactic(auto, using(crate::proofs::Columns::rectangle_rows))]
     fn of_rectangle(rectangle: Rectangle) -> Rows<Pixels>
         ensures { Bounds (Outline.Rectangle rectangle) result }
     {
@@ -165,6 +169,7 @@ impl Rows<Pixels> {
 
 impl Outline {
     // What is covered of row q, and of a segment what the rectangle around it covers.
+    #[tactic(auto, using(crate::proofs::Columns::nothing_has, crate::proofs::Columns::everything_has, crate::proofs::Columns::point_has))]
     fn on_row(self, q: Pixels) -> Chord
         requires { Sampled q }
         ensures { Chords (boxed self) q result }
@@ -180,6 +185,7 @@ impl Outline {
     }
 
     // The rows outside of which nothing is covered.
+    #[tactic(auto, using(crate::proofs::Columns::nothing_rows, crate::proofs::Columns::point_rows, crate::proofs::Columns::area_rows, crate::proofs::Narrowing::segment_rows))]
     pub fn rows(self) -> Rows<Pixels>
         ensures { Bounds self result }
     {
@@ -203,6 +209,7 @@ impl Outline {
     }
 
     // Of the columns that the chord has, those that are covered.
+    #[tactic(auto, using(crate::proofs::Narrowing::plain_narrows))]
     fn narrow(self, chord: Chord, q: Pixels) -> Chord
         requires { OnScreen q.0 × Shown chord }
         ensures { Narrows self q chord result }
@@ -230,6 +237,11 @@ impl Outline {
         ensures { result ≡ reaches_row self scissor width q }
     {
         let chord = self.reach(scissor, width, q);
-        (chord.left.0..chord.right.0).any(|x| chord.holds(Pixels(x)))
+        for x in chord.left.0..chord.right.0 {
+            if chord.holds(Pixels(x)) {
+                return true;
+            }
+        }
+        false
     }
 }

@@ -1,4 +1,5 @@
-// A segment of a line, row by row. Every number here fits 64 bits: its ends are short, and so are the samples of a frame.
+// A segment of a line, row by row. Every number here fits 64 bits: its ends are short, and so are the samples of a
+// frame.
 ghost use Rattle.std.specs.Prelude.{true, ◌≡◌, ◌<◌, ◌-◌, ◌^◌};
 ghost use Rattle.units.specs.Units.{short_from};
 ghost use Rattle.action.specs.Ends.{short_ends};
@@ -18,6 +19,7 @@ pub fn around(segment: Segment) -> Rectangle
 }
 
 // The squared distance of two places.
+#[tactic(auto, unfolding(crate::specs::Cover::squared), using(crate::proofs::Sizes::leg_small))]
 fn squared(a: End, b: End) -> u64
     requires { Close a × Close b }
     ensures value { result ≡ squared a b }
@@ -28,17 +30,16 @@ fn squared(a: End, b: End) -> u64
     across * across + down * down
 }
 
-// Whether a segment comes near enough to a sample, by squares: a and b of the sample's distances to the ends, `length` of theirs. Let a and b be too large by
-// x and y. The mean of the ends by weights k and n is near enough exactly if k * k * x + n * n * y is at most k * n times what x and y leave of the length,
-// and some k and n make it so exactly if 4 * x * y is at most the square of that rest.
+// Whether a segment comes near enough to a sample, by squares: a and b of the sample's distances to the ends, `length`
+// of theirs. Let a and b be too large by x and y. The mean of the ends by weights k and n is near enough exactly if
+// k * k * x + n * n * y is at most k * n times what x and y leave of the length, and some k and n make it so exactly if
+// 4 * x * y is at most the square of that rest.
+#[tactic(auto, unfolding(crate::specs::Lines::by_squares), using(crate::proofs::Sizes::product_small))]
 fn by_squares(a: u64, b: u64, length: u64, enough: u64) -> bool
     requires { (a < 2 ^ 33) × ((b < 2 ^ 33) × (length < 2 ^ 33)) }
     ensures { result ≡ by_squares a b length enough }
 {
-    if a <= enough {
-        return true;
-    }
-    if b <= enough {
+    if a <= enough || b <= enough {
         return true;
     }
     let x = a - enough;
@@ -51,6 +52,7 @@ fn by_squares(a: u64, b: u64, length: u64, enough: u64) -> bool
 }
 
 // Whether the segment covers the pixel.
+#[tactic(auto, using(crate::proofs::Sizes::ends_close, crate::proofs::Sizes::sample_close))]
 fn covers(segment: Segment, p: Pixels, q: Pixels) -> bool
     requires { (short_ends segment ≡ true) × (OnScreen p.0 × OnScreen q.0) }
     ensures { result ≡ segment_covers segment p q }
@@ -118,8 +120,9 @@ fn leaning(a: Place, b: Place, y: u64, slack: u64) -> Chord
     Chord::flat(Pixels(0), Pixels(PIXELS))
 }
 
-// The columns in which row q comes near the line through the ends: times the rise, no further across than the width times the ends' distances across and
-// down together, which are at least their distance.
+// The columns in which row q comes near the line through the ends: times the rise, no further across than the width
+// times the ends' distances across and down together, which are at least their distance.
+#[tactic(auto, using(crate::proofs::Sizes::ends_close, crate::proofs::Sizes::slack_small))]
 fn near_line(segment: Segment, q: Pixels) -> Chord
     requires { (short_ends segment ≡ true) × OnScreen q.0 }
     ensures { Between segment q result.left.0 result.right.0 }

@@ -8,6 +8,7 @@ use crate::{Outline, Rows};
 use action::{Action, Drawing};
 use units::{Pixels, TALLEST};
 
+#[tactic(auto, unfolding(crate::specs::Cover::outline_of))]
 pub fn outline(drawing: Drawing) -> Outline
     ensures { result ≡ outline_of drawing }
 {

@@ -1,16 +1,12 @@
-use Rattle.std.proofs.Common.{◌≡◌, refl, true, false, rules, tests}
-use Rattle.std.proofs.lemmas.Iterator.{cases_from_any, YieldsList-from_range}
-use Rattle.shape.specs.OneRow.{holds_in}
-use Rattle.shape.proofs.Reaching.{row-any}
-use Rattle.shape.proofs.Searching.{any-in}
+use mathlib.Core.Path.{◌∙◌, sym}
+use native.Mathlib.Omega.{arith}
+use Rattle.shape.proofs.Reaching.{row-found, row-not-found}
 use Rattle.shape.proofs.Outline.reaches.Goals as goal
+
+pub returns-then-holds : goal.returns-then-holds
+returns-then-holds c =
+    sym (row-found _ _ _ _ _ c.reach-chord.ensures c.loop-x.x (omega (arith, c.loop-x.auto)) (omega (arith, c.loop-x-test.true)) (sym c.holds.ensures ∙ c.if-holds.true))
 
 pub returns : goal.returns
 returns c =
-    let chord = c.reach-chord.result in
-    row-any _ _ _ _ _ c.reach-chord.ensures _
-    (any-in _ _ _ _ _
-    (cases_from_any _ _ _ (λ x. holds_in chord (record { 0 = x }) ≡ true) (λ x. holds_in chord (record { 0 = x }) ≡ false) c.any.ensures.ran
-    (YieldsList-from_range chord.left.0 chord.right.0 _ refl refl)
-    (λ x q k. search (rules, tests))
-    (λ x q k. search (rules, tests))))
+    sym (row-not-found _ _ _ _ _ c.reach-chord.ensures (λ x h k. c.loop-x.invariant x h (omega (arith, c.loop-x-test.false))))
