@@ -25,7 +25,7 @@ fn tell(answer: Answer) -> JvRing
         number: answer.number,
         place: answer.place,
         count: answer.count,
-        reported: ring::reported(marks),
+        reported: marks.reported(),
         read: marks.read,
         write: marks.write,
         offset: marks.offset,
