@@ -56,11 +56,11 @@ impl Fault {
     }
 }
 
-impl Command {
+impl From<u32> for Command {
+    ghost from_gives = { λ word command. command ≡ command_of word };
+
     #[tactic(auto, unfolding(crate::specs::Command::command_of))]
-    pub fn of(word: u32) -> Command
-        ensures { result ≡ command_of word }
-    {
+    fn from(word: u32) -> Command {
         if word >> 24 != 0xFF {
             return Command::Plain;
         }
@@ -75,7 +75,9 @@ impl Command {
             _ => Command::Unknown,
         }
     }
+}
 
+impl Command {
     // How many words it takes, its parameters included.
     #[tactic(auto, unfolding(crate::specs::Command::size_of))]
     pub fn size(self) -> u32
@@ -105,7 +107,7 @@ fn is_inside(at: u32, count: u32, memory: &[u8]) -> bool
 }
 
 #[tactic(auto, unfolding(crate::specs::Command::stored, crate::specs::Command::is_inside))]
-fn fill(memory: &mut [u8], at: u32, count: u32, value: u32) -> Result<(), Fault>
+fn fill(memory: &mut [u8], at: u32, value: u32, count: u32) -> Result<(), Fault>
     ensures { Stores (is_inside at count memory.old) at (replicate count (value % 2 ^ 8)) memory.old result memory.new }
 {
     if !is_inside(at, count, memory) {
@@ -118,7 +120,8 @@ fn fill(memory: &mut [u8], at: u32, count: u32, value: u32) -> Result<(), Fault>
 
 #[tactic(auto, unfolding(crate::specs::Command::stored, crate::specs::Command::is_inside))]
 fn copy(memory: &mut [u8], target: u32, source: u32, count: u32) -> Result<(), Fault>
-    ensures { Stores (is_inside target count memory.old && is_inside source count memory.old) target (part source count memory.old) memory.old result memory.new }
+    ensures { Stores (is_inside target count memory.old && is_inside source count memory.old)
+        target (part source count memory.old) memory.old result memory.new }
 {
     if !(is_inside(target, count, memory) & is_inside(source, count, memory)) {
         return Err(Fault::OutsideMemory);
@@ -142,7 +145,7 @@ fn list_word(word: u32, offset: u32, list: &mut [u8; 8192]) -> Result<u32, Fault
 }
 
 // Bytes of the memory become the list's next. It answers the offset past them.
-#[tactic(auto, unfolding(crate::specs::Command::appended, crate::specs::Command::listed, crate::specs::Command::is_inside))]
+#[tactic(auto, unfolding(crate::specs::Command::appended, crate::specs::Command::is_inside))]
 fn append(
     memory: &[u8],
     at: u32,
@@ -177,7 +180,8 @@ pub fn obey(
     shown: &mut [u8; 8192],
     memory: &mut [u8],
 ) -> Result<Taken, Fault>
-    ensures { does command (words_from ring.now at.marks.read (size_of command)) at.marks.offset (lent list.old shown.old memory.old) ≡ came result (lent list.new shown.new memory.new) }
+    ensures { does command (words_from ring.now at.marks.read (size_of command)) at.marks.offset
+        (lent list.old shown.old memory.old) ≡ came result (lent list.new shown.new memory.new) }
 {
     let mut offset = at.marks.offset;
     match command {
@@ -185,8 +189,8 @@ pub fn obey(
         Command::DlStart => offset = 0,
         Command::Swap => shown.copy_from_slice(list),
         Command::ColdStart => {}
-        Command::MemSet => fill(memory, at.word(ring, 1), at.word(ring, 3), at.word(ring, 2))?,
-        Command::MemZero => fill(memory, at.word(ring, 1), at.word(ring, 2), 0)?,
+        Command::MemSet => fill(memory, at.word(ring, 1), at.word(ring, 2), at.word(ring, 3))?,
+        Command::MemZero => fill(memory, at.word(ring, 1), 0, at.word(ring, 2))?,
         Command::MemCpy => copy(memory, at.word(ring, 1), at.word(ring, 2), at.word(ring, 3))?,
         Command::Append => offset = append(
             memory,

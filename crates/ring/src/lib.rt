@@ -1,5 +1,5 @@
-// The coprocessor's command ring: the run over ring, RAM_DL, shown list and RAM_G, the host's words, and the reset. Each
-// answers for every input.
+// The coprocessor's command ring: the run over ring, RAM_DL, shown list and RAM_G, the host's words, and the reset.
+// Each answers for every input.
 
 #![tactic(auto)]
 
@@ -39,10 +39,11 @@ fn step(
     memory: &mut [u8],
     at: Placed,
 ) -> Answer
-    ensures { Tells (stepped ring.now at.marks (lent list.old shown.old memory.old)) result list.new shown.new memory.new }
+    ensures { Tells (stepped ring.now at.marks (lent list.old shown.old memory.old)) result
+        list.new shown.new memory.new }
 {
     let marks = at.marks;
-    let command = Command::of(at.word(ring, 0));
+    let command = Command::from(at.word(ring, 0));
     let size = 4 * command.size();
     if at.waiting() < size {
         return stop(30, marks);
@@ -67,8 +68,9 @@ fn step(
     }
 }
 
-// Takes command after command until one stops the run or none waits. No count ends the loop: at most 4,092 bytes wait and each
-// command takes 4 of them at least, so the 1,023 commands of the contract empty the ring (`stops`, specs/Flow.antt).
+// Takes command after command until one stops the run or none waits. No count ends the loop: at most 4,092 bytes wait
+// and each command takes 4 of them at least, so the 1,023 commands of the contract empty the ring (`stops`,
+// specs/Flow.antt).
 fn run_all(
     ring: &[u8; 4096],
     list: &mut [u8; 8192],
@@ -76,7 +78,8 @@ fn run_all(
     memory: &mut [u8],
     at: Placed,
 ) -> Answer
-    ensures { Tells (runs ring.now 1023 at.marks (lent list.old shown.old memory.old)) result list.new shown.new memory.new }
+    ensures { Tells (runs ring.now 1023 at.marks (lent list.old shown.old memory.old)) result
+        list.new shown.new memory.new }
 {
     let mut now = at.marks;
     let mut count: u32 = 0;
@@ -99,7 +102,8 @@ fn run_all(
 
 // Marks that a call goes by. Run and host's words test them alike.
 fn admit(marks: Marks) -> Result<Placed, Refusal>
-    ensures { MatchResult result (λ at. (is_free marks ≡ true) × (at.marks ≡ marks)) (λ refusal. Refuses marks refusal) }
+    ensures { MatchResult result (λ at. (is_free marks ≡ true) × (at.marks ≡ marks))
+        (λ refusal. Refuses marks refusal) }
 {
     if !marks.are_places() {
         return Err(Refusal::NotPlaces);
@@ -127,7 +131,8 @@ fn try_run(
     memory: &mut [u8],
     marks: Marks,
 ) -> Result<Answer, Refusal>
-    ensures { Tells (ran ring.now marks (lent list.old shown.old memory.old)) (tells result marks) list.new shown.new memory.new }
+    ensures { Tells (ran ring.now marks (lent list.old shown.old memory.old)) (tells result marks)
+        list.new shown.new memory.new }
 {
     let Some(ring) = ring.as_array() else {
         return Err(Refusal::NotSized);

@@ -9,7 +9,7 @@ use Rattle.ring.proofs.step.Goals as goal
 pub returns-then-waiting-size : goal.returns-then-waiting-size
 returns-then-waiting-size c =
     let x = lent c.args.list.now c.args.shown.now c.args.memory.now in
-    let k = c.of-command.ensures ∙ ap command_of c.word.ensures in
+    let k = c.from-command.ensures ∙ ap command_of c.word.ensures in
     let z = c.size-size.ensures.words ∙ ap size_of k in
     let h = step-short c.args.ring.now c.args.at.marks x (rw (← z, ← c.waiting.ensures) c.if-waiting-size.true) in
     record { answered = c.stop.ensures ∙ sym (ap run_answer h); left = ap (λ r. r.runs) h }
@@ -17,7 +17,7 @@ returns-then-waiting-size c =
 pub returns-in-Ok : goal.returns-in-Ok
 returns-in-Ok c =
     let x = lent c.args.list.now c.args.shown.now c.args.memory.now in
-    let k = c.of-command.ensures ∙ ap command_of c.word.ensures in
+    let k = c.from-command.ensures ∙ ap command_of c.word.ensures in
     let z = c.size-size.ensures.words ∙ ap size_of k in
     let there : 4 * c.size-size.result ≤ c.waiting.result = omega arith in
     let t = rw (c.waiting.ensures, z) at there in
@@ -27,7 +27,7 @@ returns-in-Ok c =
 pub returns-in-Err : goal.returns-in-Err
 returns-in-Err c =
     let x = lent c.args.list.now c.args.shown.now c.args.memory.now in
-    let k = c.of-command.ensures ∙ ap command_of c.word.ensures in
+    let k = c.from-command.ensures ∙ ap command_of c.word.ensures in
     let z = c.size-size.ensures.words ∙ ap size_of k in
     let there : 4 * c.size-size.result ≤ c.waiting.result = omega arith in
     let t = rw (c.waiting.ensures, z) at there in
