@@ -15,8 +15,8 @@ use Rattle.ring.specs.Ring.{are_places, is_free}
 use Rattle.ring.specs.Run.{are_sized, run, ran, stopped}
 use Rattle.ring.proofs.Steps.{is_sized}
 
-pub measured : (ring : List ℕ) (x : Runs) → length ring ≡ 4096 → length x.list ≡ 8192 → length x.shown ≡ 8192 → length x.memory ≤ 1048576
-    → is_sized ring x ≡ true
+pub measured : (ring : List ℕ) (x : Runs) → length ring ≡ 4096 → length x.list ≡ 8192 → length x.shown ≡ 8192
+    → length x.memory ≤ 1048576 → is_sized ring x ≡ true
 unfolding are_sized
 measured ring x r l s m = rw (eq-eqb _ _ r, eq-eqb _ _ l, eq-eqb _ _ s, le-leb _ _ m)
 
@@ -33,8 +33,8 @@ ran-refused ring m x s r.InFault e = rw (s, e.0, e.1)
 ran-refused ring m x s r.NotSized e = absurd e
 ran-refused ring m x s r.NoRoom e = absurd e
 
-pub put-refused : (ring bytes : List ℕ) (m : Marks) → length ring ≡ 4096 → length bytes % 4 ≡ 0 → (why : Refusal) → Refuses m why
-    → put ring bytes m ≡ refused (refusal_number why) m ring
+pub put-refused : (ring bytes : List ℕ) (m : Marks) → length ring ≡ 4096 → length bytes % 4 ≡ 0 → (why : Refusal)
+    → Refuses m why → put ring bytes m ≡ refused (refusal_number why) m ring
 unfolding put refusal_number
 put-refused ring bytes m l w r.NotPlaces e = rw (eq-eqb _ _ l, eq-eqb _ _ w, e)
 put-refused ring bytes m l w r.InFault e = rw (eq-eqb _ _ l, eq-eqb _ _ w, e.0, e.1)

@@ -1,5 +1,5 @@
--- One step of a run: what a command comes to, which marks stay places, and what it takes of what waits; then the run turn by turn, and how
--- far it has come. Assumes nothing.
+-- One step of a run: what a command comes to, which marks stay places, and what it takes of what waits; then the run
+-- turn by turn, and how far it has come. Assumes nothing.
 use mathlib.Core.Path.{◌≡◌, refl, sym, ap, ◌∙◌}
 use mathlib.Core.Bool.{Bool, true, false, cond, ◌&&◌}
 use mathlib.Core.List.{List, [], ◌∷◌, ◌++◌, append-nil}
@@ -18,7 +18,8 @@ use Rattle.ring.specs.declared.command.Command.TheVariants as c
 use Rattle.ring.specs.declared.command.Fault.{Fault}
 use Rattle.ring.specs.declared.command.Fault.TheVariants as f
 use Rattle.ring.specs.declared.marks.Marks.{Marks}
-use Rattle.ring.specs.Command.{Runs, Outcome, Done, fault_number, size_of, command_of, is_inside, stored, listed, appended, does, obeyed, with_list, taken, fault}
+use Rattle.ring.specs.Command.{Runs, Outcome, Done, fault_number, size_of, command_of, is_inside, stored, listed}
+use Rattle.ring.specs.Command.{appended, does, obeyed, with_list, taken, fault}
 use Rattle.ring.specs.Flow.{joined}
 use Rattle.ring.specs.Ring.{waiting, word_from, words_from, each, are_places}
 use Rattle.ring.specs.Run.{Ran, stopped, command_at, words_at, settled, step, then, run, are_sized, run_answer}
@@ -87,7 +88,8 @@ unfolding appended
 appended-comes at count offset x w = go (is_inside at count x.memory && eqb (count % 4) 0) refl
   where
     go : (t : Bool) → is_inside at count x.memory && eqb (count % 4) 0 ≡ t →
-        Comes x (cond t (listed (part at count x.memory) offset x) (fault f.OutsideMemory x)).outcome (cond t (listed (part at count x.memory) offset x) (fault f.OutsideMemory x)).runs
+        Comes x (cond t (listed (part at count x.memory) offset x) (fault f.OutsideMemory x)).outcome
+        (cond t (listed (part at count x.memory) offset x) (fault f.OutsideMemory x)).runs
     go true e =
         let b = both_true (is_inside at count x.memory) (eqb (count % 4) 0) e in
         let n = part-long at count x.memory (inside at count x.memory b.0) in
@@ -168,7 +170,8 @@ module _ (ring : List ℕ) (m : Marks) (x : Runs) where
         step-cases (λ r. 4 * length (joined r.commands) + waiting r.marks ≡ waiting m) (omega arith)
         (λ h. settled-exact (words_at ring m) now.outcome now.runs h)
 
-    settled-one : (words : List ℕ) (out : Outcome) (y : Runs) → (settled m words out y).number ≡ 0 → (settled m words out y).commands ≡ words ∷ []
+    settled-one : (words : List ℕ) (out : Outcome) (y : Runs) → (settled m words out y).number ≡ 0 →
+        (settled m words out y).commands ≡ words ∷ []
     settled-one words (Ok taken) y z = refl
     settled-one words (Err why) y z = let h = fault-some why in absurd (omega arith)
 

@@ -1,8 +1,11 @@
--- One command: its words, and what it does. Document 01, 'The ring': 'Words whose top byte is not FF go to RAM_DL unexamined. Commands: FFFFFF00 DLSTART, 01
--- SWAP (copies RAM_DL to the shown list, RAM_DL and list offset stay), 32 COLDSTART (no effect yet), 1B MEMSET (address, value's low byte, count), 1C MEMZERO
--- (address, count), 1D MEMCPY (target, source, count, as if the source were copied first), 1E APPEND (address, count).'
--- How the list offset moves is the guide's: 5.3, each word written to RAM_DL moves it on, and 5.10, DLSTART sets it to 0; 5.14, APPEND moves it on by its count.
-use Rattle.std.specs.Prelude.{Bool, true, false, cond, ◌&&◌, List, ℕ, ◌+◌, ◌/◌, ◌%◌, ◌^◌, eqb, leb, get_or, length, replicate, Result, Ok, Err}
+-- One command: its words, and what it does. Document 01, 'The ring': 'Words whose top byte is not FF go to RAM_DL
+-- unexamined. Commands: FFFFFF00 DLSTART, 01 SWAP (copies RAM_DL to the shown list, RAM_DL and list offset stay),
+-- 32 COLDSTART (no effect yet), 1B MEMSET (address, value's low byte, count), 1C MEMZERO (address, count), 1D MEMCPY
+-- (target, source, count, as if the source were copied first), 1E APPEND (address, count).'
+-- How the list offset moves is the guide's: 5.3, each word written to RAM_DL moves it on, and 5.10, DLSTART sets it
+-- to 0; 5.14, APPEND moves it on by its count.
+use Rattle.std.specs.Prelude.{Bool, true, false, cond, ◌&&◌, List, ℕ, ◌+◌, ◌/◌, ◌%◌, ◌^◌, eqb, leb}
+use Rattle.std.specs.Prelude.{get_or, length, replicate, Result, Ok, Err}
 use Rattle.runs.specs.Runs.{bytes_of, laid, part}
 use Rattle.ring.specs.declared.command.Command.{Command}
 use Rattle.ring.specs.declared.command.Command.TheVariants as c
@@ -86,7 +89,9 @@ stored fits at new offset x = cond fits (taken offset (with_memory (laid at new 
 -- these bytes become RAM_DL's next. Number 34: 'RAM_DL full'
 unfoldable pub listed : List ℕ → ℕ → Runs → Done
 listed new offset x =
-    cond (leb (offset + length new) 8192) (taken (offset + length new) (with_list (laid offset new x.list) x)) (fault f.ListFull x)
+    cond (leb (offset + length new) 8192)
+    (taken (offset + length new) (with_list (laid offset new x.list) x))
+    (fault f.ListFull x)
 
 -- MEMSET and MEMZERO: count times one byte
 abbrev pub filled : ℕ → ℕ → ℕ → ℕ → Runs → Done
@@ -105,7 +110,9 @@ copied target source count offset x =
 -- APPEND. 35 too: 'or APPEND count not a multiple of 4'; '35 before 34'
 unfoldable pub appended : ℕ → ℕ → ℕ → Runs → Done
 appended address count offset x =
-    cond (is_inside address count x.memory && eqb (count % 4) 0) (listed (part address count x.memory) offset x) (fault f.OutsideMemory x)
+    cond (is_inside address count x.memory && eqb (count % 4) 0)
+    (listed (part address count x.memory) offset x)
+    (fault f.OutsideMemory x)
 
 -- A COMMAND OBEYED, given its words: word 0 is the command's own, its parameters follow
 abbrev pub word : ℕ → List ℕ → ℕ

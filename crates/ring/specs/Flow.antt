@@ -1,6 +1,7 @@
 -- What holds of the host's words and the run together. Document 01, 'The ring': 'A run stops at idle, waiting, swap or fault, after at most 1,023 commands';
 -- '36 already in fault'; 'Taken room is free again'. Nothing here asks that a call was not refused.
-use Rattle.std.specs.Prelude.{◌≡◌, Bool, true, false, cond, List, [], ◌∷◌, ◌++◌, ℕ, ◌+◌, ◌*◌, ◌/◌, ◌≤◌, ◌<◌, eqb, length, Ok, Err}
+use Rattle.std.specs.Prelude.{◌≡◌, Bool, true, false, cond, List, [], ◌∷◌, ◌++◌, ℕ, ◌+◌, ◌*◌, ◌/◌, ◌≤◌, ◌<◌}
+use Rattle.std.specs.Prelude.{eqb, length, Ok, Err}
 use Rattle.runs.specs.Runs.{word_at}
 use Rattle.ring.specs.declared.marks.Marks.{Marks}
 use Rattle.ring.specs.Command.{Runs, Outcome, obeyed}

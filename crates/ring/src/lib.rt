@@ -101,6 +101,7 @@ fn run_all(
 }
 
 // Marks that a call goes by. Run and host's words test them alike.
+#[tactic(auto, unfolding(crate::specs::Ring::is_free, crate::specs::Ring::are_places))]
 fn admit(marks: Marks) -> Result<Placed, Refusal>
     ensures { MatchResult result (λ at. (is_free marks ≡ true) × (at.marks ≡ marks))
         (λ refusal. Refuses marks refusal) }

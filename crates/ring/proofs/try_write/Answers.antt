@@ -37,7 +37,8 @@ returns-then-waiting-words c =
     let marks = c.in_ok-at.ensures in
     let places = rw marks.1 at (arranged_at c.in_ok-at.at) in
     let few = rw (c.waiting.ensures, marks.1) at c.if-waiting-words.true in
-    rw (eq-eqb _ _ ring.long, eq-eqb _ _ c.if-words-ne0.false, places, marks.0, lt-leb _ _ few) (record { answered = refl; left = ring.same })
+    rw (eq-eqb _ _ ring.long, eq-eqb _ _ c.if-words-ne0.false, places, marks.0, lt-leb _ _ few)
+    (record { answered = refl; left = ring.same })
 
 pub returns : goal.returns
 unfolding put room

@@ -25,4 +25,6 @@ returns c =
     let f = sym (both-alike c.is_inside.ensures refl) ∙ c.if-not-is_inside-count.false in
     let h = inside _ _ _ (both_true _ _ f).0 in
     let l : a.offset + a.count ≤ 8192 = omega (arith, c.if-offset-count.false, c.requires) in
-    λ shown. rw (f, part-long a.at a.count a.memory.now h, le-leb (a.offset + a.count) 8192 l) (ap (λ (l : List ℕ). taken (a.offset + a.count) (lent l shown a.memory.now)) (copied-part a.offset a.count a.list.now a.at a.memory.now _ (omega (arith, c.fits-list, l)) h c.copy_from_slice.ensures.after))
+    let new = copied-part a.offset a.count a.list.now a.at a.memory.now _ (omega (arith, c.told-list, l)) h c.copy_from_slice.ensures.after in
+    λ shown. rw (f, part-long a.at a.count a.memory.now h, le-leb (a.offset + a.count) 8192 l)
+    (ap (λ (l : List ℕ). taken (a.offset + a.count) (lent l shown a.memory.now)) new)

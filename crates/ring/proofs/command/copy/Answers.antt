@@ -11,4 +11,6 @@ pub returns : goal.returns
 unfolding stored
 returns c =
     let f = sym (both-alike c.is_inside.ensures c.is_inside-2.ensures) ∙ c.if-not-is_inside.false in
-    λ list shown offset. rw f (ap (λ (m : List ℕ). taken offset (lent list shown m)) (copied-within c.args.target c.args.source c.args.count c.args.memory.now (inside _ _ _ (both_true _ _ f).1) ∙ sym c.copy_within.ensures.after))
+    let a = c.args in
+    let new = copied-within a.target a.source a.count a.memory.now (inside _ _ _ (both_true _ _ f).1) in
+    λ list shown offset. rw f (ap (λ (m : List ℕ). taken offset (lent list shown m)) (new ∙ sym c.copy_within.ensures.after))

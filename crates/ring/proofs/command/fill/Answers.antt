@@ -11,4 +11,6 @@ unfolding stored
 returns c =
     let a = c.args in
     let f = sym c.is_inside.ensures ∙ c.if-not-is_inside.false in
-    λ list shown offset. rw f (ap (λ (m : List ℕ). taken offset (lent list shown m)) (flooded a.at a.count (a.value % 2 ^ 8) a.memory.now _ (inside _ _ _ f) (c.fill.ensures.after (λ y h. h))))
+    let fits = inside _ _ _ f in
+    let new = flooded a.at a.count (a.value % 2 ^ 8) a.memory.now _ fits (c.fill.ensures.after (λ y h. h)) in
+    λ list shown offset. rw f (ap (λ (m : List ℕ). taken offset (lent list shown m)) new)
