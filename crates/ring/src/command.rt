@@ -202,7 +202,7 @@ pub fn obey(
         Command::Unknown => return Err(Fault::UnknownCommand),
     }
     Ok(Taken {
-        offset: offset,
+        offset,
         swaps: command == Command::Swap,
     })
 }

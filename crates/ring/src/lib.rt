@@ -24,10 +24,10 @@ fn stop(number: u32, marks: Marks) -> Answer
     ensures { result ≡ record { number = number; place = 0; count = 0; marks = marks } }
 {
     Answer {
-        number: number,
+        number,
         place: 0,
         count: 0,
-        marks: marks,
+        marks,
     }
 }
 
@@ -87,15 +87,12 @@ fn run_all(
         let done = step(ring, list, shown, memory, Placed { marks: now });
         count += done.count;
         if done.number != 0 {
-            return Answer {
-                count: count,
-                ..done
-            };
+            return Answer { count, ..done };
         }
         now = done.marks;
     }
     Answer {
-        count: count,
+        count,
         ..stop(0, now)
     }
 }
@@ -112,7 +109,7 @@ fn admit(marks: Marks) -> Result<Placed, Refusal>
     if marks.fault != 0 {
         return Err(Refusal::InFault);
     }
-    Ok(Placed { marks: marks })
+    Ok(Placed { marks })
 }
 
 // A call's answer. One that was refused changes nothing.
