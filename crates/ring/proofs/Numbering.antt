@@ -25,9 +25,9 @@ is_fault n = is_one_of (32 ∷ 34 ∷ 35 ∷ []) n
 
 fault-listed : (why : Fault) → ListedNumber (fault_number why) × (is_fault (fault_number why) ≡ true)
 unfolding fault_number
-fault-listed f.UnknownCommand = (refl, refl)
+fault-listed f.Unknown = (refl, refl)
 fault-listed f.ListFull = (refl, refl)
-fault-listed f.OutsideMemory = (refl, refl)
+fault-listed f.BadRange = (refl, refl)
 
 module _ (m : Marks) where
   quiet : (r : Ran) → ListedNumber r.number → is_fault r.number ≡ false → r.place ≡ 0 → r.marks.fault ≡ m.fault → r.marks.write ≡ m.write → Regular m r

@@ -28,15 +28,15 @@ ran-goes ring m x s p f = rw (s, p, f)
 pub ran-refused : (ring : List ℕ) (m : Marks) (x : Runs) → is_sized ring x ≡ true → (why : Refusal) → Refuses m why
     → ran ring m x ≡ stopped (refusal_number why) m x
 unfolding ran refusal_number
-ran-refused ring m x s r.NotPlaces e = rw (s, e)
-ran-refused ring m x s r.InFault e = rw (s, e.0, e.1)
-ran-refused ring m x s r.NotSized e = absurd e
+ran-refused ring m x s r.BadMark e = rw (s, e)
+ran-refused ring m x s r.Faulty e = rw (s, e.0, e.1)
+ran-refused ring m x s r.BadRun e = absurd e
 ran-refused ring m x s r.NoRoom e = absurd e
 
 pub put-refused : (ring bytes : List ℕ) (m : Marks) → length ring ≡ 4096 → length bytes % 4 ≡ 0 → (why : Refusal)
     → Refuses m why → put ring bytes m ≡ refused (refusal_number why) m ring
 unfolding put refusal_number
-put-refused ring bytes m l w r.NotPlaces e = rw (eq-eqb _ _ l, eq-eqb _ _ w, e)
-put-refused ring bytes m l w r.InFault e = rw (eq-eqb _ _ l, eq-eqb _ _ w, e.0, e.1)
-put-refused ring bytes m l w r.NotSized e = absurd e
+put-refused ring bytes m l w r.BadMark e = rw (eq-eqb _ _ l, eq-eqb _ _ w, e)
+put-refused ring bytes m l w r.Faulty e = rw (eq-eqb _ _ l, eq-eqb _ _ w, e.0, e.1)
+put-refused ring bytes m l w r.BadRun e = absurd e
 put-refused ring bytes m l w r.NoRoom e = absurd e

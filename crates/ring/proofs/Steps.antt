@@ -59,9 +59,9 @@ Comes x (Err why) y = y ≡ x
 
 fault-some : (why : Fault) → 0 < fault_number why
 unfolding fault_number
-fault-some f.UnknownCommand = omega arith
+fault-some f.Unknown = omega arith
 fault-some f.ListFull = omega arith
-fault-some f.OutsideMemory = omega arith
+fault-some f.BadRange = omega arith
 
 listed-comes : (new : List ℕ) (offset : ℕ) (x : Runs) → offset % 4 ≡ 0 → length new % 4 ≡ 0 → Comes x (listed new offset x).outcome (listed new offset x).runs
 unfolding listed
@@ -88,8 +88,8 @@ unfolding appended
 appended-comes at count offset x w = go (is_inside at count x.memory && eqb (count % 4) 0) refl
   where
     go : (t : Bool) → is_inside at count x.memory && eqb (count % 4) 0 ≡ t →
-        Comes x (cond t (listed (part at count x.memory) offset x) (fault f.OutsideMemory x)).outcome
-        (cond t (listed (part at count x.memory) offset x) (fault f.OutsideMemory x)).runs
+        Comes x (cond t (listed (part at count x.memory) offset x) (fault f.BadRange x)).outcome
+        (cond t (listed (part at count x.memory) offset x) (fault f.BadRange x)).runs
     go true e =
         let b = both_true (is_inside at count x.memory) (eqb (count % 4) 0) e in
         let n = part-long at count x.memory (inside at count x.memory b.0) in

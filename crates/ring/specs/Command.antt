@@ -52,11 +52,12 @@ with_list list x = lent list x.shown x.memory
 abbrev pub with_memory : List ℕ → Runs → Runs
 with_memory memory x = lent x.list x.shown memory
 
--- numbers 32, 'an unknown command', 34, 'RAM_DL full', and 35, 'an address plus the count past RAM_G's end'
+-- '32 unknown FF word', '34 RAM_DL full', '35 an address plus the count past RAM_G's end, count 0 too, or APPEND count
+-- not a multiple of 4'
 unfoldable pub fault_number : Fault → ℕ
-fault_number f.UnknownCommand = 32
+fault_number f.Unknown = 32
 fault_number f.ListFull = 34
-fault_number f.OutsideMemory = 35
+fault_number f.BadRange = 35
 
 -- what a command came to
 abbrev pub Outcome : Type 0
@@ -84,7 +85,7 @@ is_inside at count memory = leb (at + count) (length memory)
 
 -- these bytes become RAM_G's from an address on
 unfoldable pub stored : Bool → ℕ → List ℕ → ℕ → Runs → Done
-stored fits at new offset x = cond fits (taken offset (with_memory (laid at new x.memory) x)) (fault f.OutsideMemory x)
+stored fits at new offset x = cond fits (taken offset (with_memory (laid at new x.memory) x)) (fault f.BadRange x)
 
 -- these bytes become RAM_DL's next. Number 34: 'RAM_DL full'
 unfoldable pub listed : List ℕ → ℕ → Runs → Done
@@ -112,7 +113,7 @@ unfoldable pub appended : ℕ → ℕ → ℕ → Runs → Done
 appended address count offset x =
     cond (is_inside address count x.memory && eqb (count % 4) 0)
     (listed (part address count x.memory) offset x)
-    (fault f.OutsideMemory x)
+    (fault f.BadRange x)
 
 -- A COMMAND OBEYED, given its words: word 0 is the command's own, its parameters follow
 abbrev pub word : ℕ → List ℕ → ℕ
@@ -127,7 +128,7 @@ does c.MemSet words offset x = filled (word 1 words) (word 2 words % 2 ^ 8) (wor
 does c.MemZero words offset x = filled (word 1 words) 0 (word 2 words) offset x
 does c.MemCpy words offset x = copied (word 1 words) (word 2 words) (word 3 words) offset x
 does c.Append words offset x = appended (word 1 words) (word 2 words) offset x
-does c.Unknown words offset x = fault f.UnknownCommand x
+does c.Unknown words offset x = fault f.Unknown x
 
 unfoldable pub obeyed : List ℕ → ℕ → Runs → Done
 obeyed words offset x = does (command_of (word 0 words)) words offset x

@@ -21,7 +21,7 @@ pub enum Command {
 }
 
 // A command that was taken: the list offset after it, and whether the run stops for a swap.
-#[derive(Clone, Copy, PartialEq, Eq)]
+#[derive(Clone, Copy)]
 pub struct Taken {
     pub offset: u32,
     pub swaps: bool,
@@ -38,9 +38,9 @@ impl Taken {
 // Why a command has no effect and sets the fault mark.
 #[derive(Clone, Copy, PartialEq, Eq)]
 pub enum Fault {
-    UnknownCommand,
+    Unknown,
     ListFull,
-    OutsideMemory,
+    BadRange,
 }
 
 impl Fault {
@@ -49,9 +49,9 @@ impl Fault {
         ensures { result ≡ fault_number self }
     {
         match self {
-            Fault::UnknownCommand => 32,
+            Fault::Unknown => 32,
             Fault::ListFull => 34,
-            Fault::OutsideMemory => 35,
+            Fault::BadRange => 35,
         }
     }
 }
@@ -111,7 +111,7 @@ fn fill(memory: &mut [u8], at: u32, value: u32, count: u32) -> Result<(), Fault>
     ensures { Stores (is_inside at count memory.old) at (replicate count (value % 2 ^ 8)) memory.old result memory.new }
 {
     if !is_inside(at, count, memory) {
-        return Err(Fault::OutsideMemory);
+        return Err(Fault::BadRange);
     }
     let start = at as usize;
     memory[start..start + count as usize].fill((value % 256) as u8);
@@ -124,7 +124,7 @@ fn copy(memory: &mut [u8], target: u32, source: u32, count: u32) -> Result<(), F
         target (part source count memory.old) memory.old result memory.new }
 {
     if !(is_inside(target, count, memory) & is_inside(source, count, memory)) {
-        return Err(Fault::OutsideMemory);
+        return Err(Fault::BadRange);
     }
     let start = source as usize;
     memory.copy_within(start..start + count as usize, target as usize);
@@ -157,7 +157,7 @@ fn append(
     ensures { Appends at count offset memory.now list.old result list.new }
 {
     if !(is_inside(at, count, memory) & (count % 4 == 0)) {
-        return Err(Fault::OutsideMemory);
+        return Err(Fault::BadRange);
     }
     if 8192 - offset < count {
         return Err(Fault::ListFull);
@@ -199,7 +199,7 @@ pub fn obey(
             offset,
             list,
         )?,
-        Command::Unknown => return Err(Fault::UnknownCommand),
+        Command::Unknown => return Err(Fault::Unknown),
     }
     Ok(Taken {
         offset,

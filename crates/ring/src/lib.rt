@@ -104,10 +104,10 @@ fn admit(marks: Marks) -> Result<Placed, Refusal>
         (λ refusal. Refuses marks refusal) }
 {
     if !marks.are_places() {
-        return Err(Refusal::NotPlaces);
+        return Err(Refusal::BadMark);
     }
     if marks.fault != 0 {
-        return Err(Refusal::InFault);
+        return Err(Refusal::Faulty);
     }
     Ok(Placed { marks })
 }
@@ -133,16 +133,16 @@ fn try_run(
         list.new shown.new memory.new }
 {
     let Some(ring) = ring.as_array() else {
-        return Err(Refusal::NotSized);
+        return Err(Refusal::BadRun);
     };
     let Some(list) = list.as_mut_array() else {
-        return Err(Refusal::NotSized);
+        return Err(Refusal::BadRun);
     };
     let Some(shown) = shown.as_mut_array() else {
-        return Err(Refusal::NotSized);
+        return Err(Refusal::BadRun);
     };
     if 1048576 < memory.len() {
-        return Err(Refusal::NotSized);
+        return Err(Refusal::BadRun);
     }
     let at = admit(marks)?;
     Ok(run_all(ring, list, shown, memory, at))
@@ -187,10 +187,10 @@ fn try_write(ring: &mut [u8], words: &[u8], marks: Marks) -> Result<Answer, Refu
     ensures { Puts (put ring.old words.now marks) (tells result marks) ring.new }
 {
     let Some(ring) = ring.as_mut_array() else {
-        return Err(Refusal::NotSized);
+        return Err(Refusal::BadRun);
     };
     if words.len() % 4 != 0 {
-        return Err(Refusal::NotSized);
+        return Err(Refusal::BadRun);
     }
     let at = admit(marks)?;
     if ((4092 - at.waiting()) as usize) < words.len() {

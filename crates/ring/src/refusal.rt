@@ -4,9 +4,9 @@ ghost use Rattle.ring.specs.Refusal.{refusal_number};
 
 #[derive(Clone, Copy, PartialEq, Eq)]
 pub enum Refusal {
-    NotPlaces,
-    InFault,
-    NotSized,
+    BadMark,
+    Faulty,
+    BadRun,
     NoRoom,
 }
 
@@ -16,9 +16,9 @@ impl Refusal {
         ensures { result ≡ refusal_number self }
     {
         match self {
-            Refusal::NotPlaces => 33,
-            Refusal::InFault => 36,
-            Refusal::NotSized => 37,
+            Refusal::BadMark => 33,
+            Refusal::Faulty => 36,
+            Refusal::BadRun => 37,
             Refusal::NoRoom => 38,
         }
     }
