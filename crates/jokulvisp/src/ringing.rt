@@ -25,7 +25,7 @@ fn tell(answer: Answer) -> JvRing
         number: answer.number,
         place: answer.place,
         count: answer.count,
-        reported: ring::reported(marks),
+        reported: marks.reported(),
         read: marks.read,
         write: marks.write,
         offset: marks.offset,
@@ -48,10 +48,10 @@ pub fn jv_ring_run(
         list.new shown.new memory.new }
 {
     let marks = Marks {
-        read: read,
-        write: write,
-        offset: offset,
-        fault: fault,
+        read,
+        write,
+        offset,
+        fault,
     };
     tell(ring::run(ring, list, shown, memory, marks))
 }
@@ -69,10 +69,10 @@ pub fn jv_ring_write(
         ring.new }
 {
     let marks = Marks {
-        read: read,
-        write: write,
-        offset: offset,
-        fault: fault,
+        read,
+        write,
+        offset,
+        fault,
     };
     tell(ring::write(ring, words, marks))
 }

@@ -1,11 +1,11 @@
 -- What commands leave of a run of which they are lent a part, in the words of the definitions. Assumes nothing.
 use mathlib.Core.Path.{◌≡◌, sym, ◌∙◌, ap}
-use mathlib.Core.List.{List, [], ◌++◌, append-nil}
+use mathlib.Core.List.{List, [], ◌++◌, append_assoc, append-nil}
 use Prim.Native.Nat.{ℕ, ◌+◌, ◌-◌, ◌≤◌, zero-le}
-use native.Mathlib.Nat.{le_refl, zero-add}
+use native.Mathlib.Nat.{add-sub_cancel_left, zero-add}
 use native.Mathlib.Omega.{arith}
 use lib.ListN.{length, take, drop, replicate, length-drop, length-replicate, drop_of_length-le}
-use lib.Seq.{drop-drop, take_all}
+use lib.Seq.{drop-drop, paste, take_all}
 use Rattle.runs.specs.Runs.{laid, part}
 use Rattle.ring.specs.Host.{laid_around}
 use Rattle.runs.proofs.Laws.{laid-lent, laid_none, lent-part, lent-part-long, part-long}
@@ -17,12 +17,6 @@ flooded at count b run new h e =
     let n = lent-part-long at count run h in
     let f : new ≡ replicate count b = e ∙ ap (λ (k : ℕ). replicate k b) n in
     sym (rw f (laid-lent at count (replicate count b) run h (length-replicate count b)))
-
--- a whole run copied over another of its length
-pub copied : (src dst : List ℕ) → length src ≡ length dst → take (length src) src ++ drop (length src) dst ≡ src
-copied src dst e =
-    let n : length dst ≤ length src = omega arith in
-    rw (take_all (length src) src (le_refl _), drop_of_length-le dst n, append-nil)
 
 -- a run copied over a part of another
 pub copied-over : (at count : ℕ) (run src new : List ℕ) → at + count ≤ length run → length src ≡ count → new ≡ src
@@ -36,15 +30,23 @@ pub copied-part : (at count : ℕ) (run : List ℕ) (source : ℕ) (from new : L
 copied-part at count run source from new h k e =
     copied-over at count run (part source count from) new h (part-long source count from k) (rw (lent-part source count from) at e)
 
+-- a part of a run copied within it
+pub copied-within : (target source count : ℕ) (run : List ℕ) → source + count ≤ length run
+    → laid target (part source count run) run ≡ paste run target (drop source run) (source + count - source)
+unfolding laid part
+copied-within target source count run h =
+    let n : length (take count (drop source run)) ≡ count = part-long source count run h in
+    rw (n, add-sub_cancel_left) (sym (append_assoc (take target run) (take count (drop source run)) (drop (target + count) run)))
+
 -- bytes copied over the end of a run, from a place on
-pub copied_tail : (at : ℕ) (run src new : List ℕ) → at + length src ≤ length run
-    → new ≡ src ++ drop (length src) (take (length run - at) (drop at run))
-    → take at run ++ (new ++ drop (length run - at) (drop at run)) ≡ laid at src run
+pub copied_tail : (at n : ℕ) (run src new : List ℕ) → length run ≡ n → at + length src ≤ n
+    → new ≡ src ++ drop (length src) (take (n - at) (drop at run))
+    → take at run ++ (new ++ drop (n - at) (drop at run)) ≡ laid at src run
 unfolding laid
-copied_tail at run src new h e =
-    let t : take (length run - at) (drop at run) ≡ drop at run = take_all (length run - at) (drop at run) (simp length-drop (omega arith)) in
-    let n : drop (length run - at) (drop at run) ≡ [] = drop_of_length-le (drop at run) {i = length run - at} (simp length-drop (omega arith)) in
-    rw (e, t, n, append-nil, drop-drop)
+copied_tail at n run src new l h e =
+    let t : take (n - at) (drop at run) ≡ drop at run = take_all (n - at) (drop at run) (simp length-drop (omega arith)) in
+    let d : drop (n - at) (drop at run) ≡ [] = drop_of_length-le (drop at run) {i = n - at} (simp length-drop (omega arith)) in
+    rw (e, t, d, append-nil, drop-drop)
 
 -- bytes that end before the ring does, and bytes that go on from its start
 pub short-around : (at : ℕ) (words ring : List ℕ) → length ring ≡ 4096 → at + length words ≤ 4096 → laid_around at words ring ≡ laid at words ring

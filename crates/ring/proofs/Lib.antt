@@ -3,6 +3,7 @@ mod Joining
 mod Lending
 mod Numbering
 pub mod Places
+mod Refusing
 mod Running
 mod Stepping
 pub mod Steps

@@ -9,6 +9,7 @@ use lib.Dec.{eqb, leb}
 use borrow.Author.Tests.{eqb-true, leb-true, eq-eqb, le-leb}
 use Rattle.truth.proofs.Bools.{both_true}
 use Rattle.ring.specs.declared.marks.Marks.{Marks}
+use Rattle.ring.specs.declared.placed.Placed as c
 use Rattle.ring.specs.Host.{past_words, room}
 use Rattle.ring.specs.Ring.{around, waiting, is_place, are_places}
 use Rattle.ring.specs.Run.{moved_on, faulted}
@@ -48,6 +49,18 @@ arranged m p =
       is-place 4092 m.write p.write-most p.write-whole,
       is-place 8192 m.offset p.offset-most p.offset-whole,
     )
+
+pub arranged_at : (at : c.Placed) → are_places at.marks ≡ true
+arranged_at at =
+    arranged at.marks
+    (record {
+      read-most = at.read.0;
+      read_whole = at.read.1;
+      write-most = at.write.0;
+      write-whole = at.write.1;
+      offset-most = at.offset.0;
+      offset-whole = at.offset.1;
+    })
 
 -- GOING AROUND
 pub around-whole : (a b : ℕ) → a % 4 ≡ 0 → b % 4 ≡ 0 → (around a b ≤ 4092) × (around a b % 4 ≡ 0)

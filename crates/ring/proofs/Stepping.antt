@@ -6,10 +6,11 @@ use native.Mathlib.Omega.{arith}
 use borrow.Author.Tests.{lt-ltb, le-ltb}
 use Rattle.ring.specs.declared.command.Command.{Command}
 use Rattle.ring.specs.declared.command.Command.TheVariants as c
-use Rattle.ring.specs.declared.command.Outcome.{Outcome}
-use Rattle.ring.specs.declared.command.Outcome.TheVariants as o
+use Rattle.ring.specs.declared.command.Fault.{Fault}
+use Rattle.ring.specs.declared.command.Taken.{Taken}
 use Rattle.ring.specs.declared.marks.Marks.{Marks}
-use Rattle.ring.specs.Command.{Runs, size_of, came, does, obeyed}
+use Rattle.std.specs.Prelude.{Ok, Err, cond}
+use Rattle.ring.specs.Command.{Runs, Outcome, fault_number, size_of, came, does, obeyed}
 use Rattle.ring.specs.Ring.{waiting}
 use Rattle.ring.specs.Run.{stopped, moved_on, faulted, command_at, words_at, settled, step}
 use Rattle.ring.proofs.Steps.{first_word, words_long}
@@ -37,11 +38,17 @@ module _ (ring : List ℕ) (m : Marks) (x : Runs) where
     unfolding step obeyed
     step-settled outcome y e = rw (le-ltb _ _ there, first_word ring m.read (command_at ring m), e)
 
-    pub step-taken : (number offset : ℕ) (y : Runs) → does (command_at ring m) (words_at ring m) m.offset x ≡ came (o.Taken number offset) y
-        → step ring m x ≡ record { number = number; place = 0; commands = words_at ring m ∷ []; marks = moved_on m (size_of (command_at ring m)) offset; runs = y }
-    step-taken number offset y e =
-        step-settled (o.Taken number offset) y e ∙ rw (words_long ring m.read (size_of (command_at ring m)))
+    pub step-taken : (taken : Taken) (y : Runs) → does (command_at ring m) (words_at ring m) m.offset x ≡ came (Ok taken) y
+        → step ring m x ≡ record {
+          number = cond taken.swaps 31 0;
+          place = 0;
+          commands = words_at ring m ∷ [];
+          marks = moved_on m (size_of (command_at ring m)) taken.offset;
+          runs = y;
+        }
+    step-taken taken y e =
+        step-settled (Ok taken) y e ∙ rw (words_long ring m.read (size_of (command_at ring m)))
 
-    pub step-fault : (number : ℕ) (y : Runs) → does (command_at ring m) (words_at ring m) m.offset x ≡ came (o.Fault number) y
-        → step ring m x ≡ record { number = number; place = m.read; commands = []; marks = faulted m; runs = y }
-    step-fault number y e = step-settled (o.Fault number) y e
+    pub step-fault : (why : Fault) (y : Runs) → does (command_at ring m) (words_at ring m) m.offset x ≡ came (Err why) y
+        → step ring m x ≡ record { number = fault_number why; place = m.read; commands = []; marks = faulted m; runs = y }
+    step-fault why y e = step-settled (Err why) y e

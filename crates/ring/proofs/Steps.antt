@@ -1,23 +1,25 @@
--- One step of a run: what a command comes to, which marks stay places, which lengths stay, and what it takes of what waits; then the run turn by turn, and how
--- far it has come. Assumes nothing.
+-- One step of a run: what a command comes to, which marks stay places, and what it takes of what waits; then the run
+-- turn by turn, and how far it has come. Assumes nothing.
 use mathlib.Core.Path.{◌≡◌, refl, sym, ap, ◌∙◌}
 use mathlib.Core.Bool.{Bool, true, false, cond, ◌&&◌}
 use mathlib.Core.List.{List, [], ◌∷◌, ◌++◌, append-nil}
 use Prim.Native.Nat.{ℕ, zero, suc, ◌+◌, ◌*◌, ◌-◌, ◌%◌, ◌≤◌, ◌<◌}
 use native.Mathlib.Nat.{add-zero, zero-add}
 use native.Mathlib.Omega.{arith}
+use Rattle.std.specs.Prelude.{Ok, Err}
 use lib.Dec.{eqb, leb, ltb}
-use borrow.Author.Tests.{eqb-true, leb-true, ltb-false, eq-eqb, ne_eqb, le-leb}
-use lib.ListN.{get_or, length, replicate, length-append, length-replicate}
+use borrow.Author.Tests.{eqb-true, leb-true, ltb-false, eq-eqb, ne_eqb}
+use lib.ListN.{get_or, length, length-append}
 use Rattle.truth.proofs.Bools.{both_true}
 use Rattle.runs.specs.Runs.{bytes_of, laid, part}
-use Rattle.runs.proofs.Laws.{laid-long, part-long}
+use Rattle.runs.proofs.Laws.{part-long}
 use Rattle.ring.specs.declared.command.Command.{Command}
 use Rattle.ring.specs.declared.command.Command.TheVariants as c
-use Rattle.ring.specs.declared.command.Outcome.{Outcome}
-use Rattle.ring.specs.declared.command.Outcome.TheVariants as o
+use Rattle.ring.specs.declared.command.Fault.{Fault}
+use Rattle.ring.specs.declared.command.Fault.TheVariants as f
 use Rattle.ring.specs.declared.marks.Marks.{Marks}
-use Rattle.ring.specs.Command.{Runs, Done, size_of, command_of, is_inside, stored, listed, appended, does, obeyed, with_list, taken, fault}
+use Rattle.ring.specs.Command.{Runs, Outcome, Done, fault_number, size_of, command_of, is_inside, stored, listed}
+use Rattle.ring.specs.Command.{appended, does, obeyed, with_list, taken, fault}
 use Rattle.ring.specs.Flow.{joined}
 use Rattle.ring.specs.Ring.{waiting, word_from, words_from, each, are_places}
 use Rattle.ring.specs.Run.{Ran, stopped, command_at, words_at, settled, step, then, run, are_sized, run_answer}
@@ -50,26 +52,32 @@ first_of ring at (suc n) h = refl
 pub first_word : (ring : List ℕ) (at : ℕ) (command : Command) → get_or (words_from ring at (size_of command)) 0 0 ≡ word_from ring at 0
 first_word ring at command = first_of ring at (size_of command) (size-some command)
 
--- WHAT A COMMAND COMES TO: a list offset that is a place, or a number that is not 0 and no effect
+-- WHAT A COMMAND COMES TO: a list offset that is a place, or a fault and no effect
 abbrev pub Comes : Runs → Outcome → Runs → Type 0
-Comes x (o.Taken number offset) y = (offset ≤ 8192) × (offset % 4 ≡ 0)
-Comes x (o.Fault number) y = (0 < number) × (y ≡ x)
+Comes x (Ok taken) y = (taken.offset ≤ 8192) × (taken.offset % 4 ≡ 0)
+Comes x (Err why) y = y ≡ x
+
+fault-some : (why : Fault) → 0 < fault_number why
+unfolding fault_number
+fault-some f.Unknown = omega arith
+fault-some f.ListFull = omega arith
+fault-some f.BadRange = omega arith
 
 listed-comes : (new : List ℕ) (offset : ℕ) (x : Runs) → offset % 4 ≡ 0 → length new % 4 ≡ 0 → Comes x (listed new offset x).outcome (listed new offset x).runs
 unfolding listed
 listed-comes new offset x w h = go (leb (offset + length new) 8192) refl
   where
     go : (t : Bool) → leb (offset + length new) 8192 ≡ t →
-        Comes x (cond t (taken (offset + length new) (with_list (laid offset new x.list) x)) (fault 34 x)).outcome
-        (cond t (taken (offset + length new) (with_list (laid offset new x.list) x)) (fault 34 x)).runs
+        Comes x (cond t (taken (offset + length new) (with_list (laid offset new x.list) x)) (fault f.ListFull x)).outcome
+        (cond t (taken (offset + length new) (with_list (laid offset new x.list) x)) (fault f.ListFull x)).runs
     go true e = (leb-true _ _ e, omega arith)
-    go false e = (omega arith, refl)
+    go false e = refl
 
 stored-comes : (fits : Bool) (at : ℕ) (new : List ℕ) (offset : ℕ) (x : Runs) → offset ≤ 8192 → offset % 4 ≡ 0 →
     Comes x (stored fits at new offset x).outcome (stored fits at new offset x).runs
 unfolding stored
 stored-comes true at new offset x l w = (l, w)
-stored-comes false at new offset x l w = (omega arith, refl)
+stored-comes false at new offset x l w = refl
 
 pub inside : (at count : ℕ) (memory : List ℕ) → is_inside at count memory ≡ true → at + count ≤ length memory
 unfolding is_inside
@@ -80,12 +88,13 @@ unfolding appended
 appended-comes at count offset x w = go (is_inside at count x.memory && eqb (count % 4) 0) refl
   where
     go : (t : Bool) → is_inside at count x.memory && eqb (count % 4) 0 ≡ t →
-        Comes x (cond t (listed (part at count x.memory) offset x) (fault 35 x)).outcome (cond t (listed (part at count x.memory) offset x) (fault 35 x)).runs
+        Comes x (cond t (listed (part at count x.memory) offset x) (fault f.BadRange x)).outcome
+        (cond t (listed (part at count x.memory) offset x) (fault f.BadRange x)).runs
     go true e =
         let b = both_true (is_inside at count x.memory) (eqb (count % 4) 0) e in
         let n = part-long at count x.memory (inside at count x.memory b.0) in
         listed-comes (part at count x.memory) offset x w (rw n (eqb-true (count % 4) 0 b.1))
-    go false e = (omega arith, refl)
+    go false e = refl
 
 pub does-comes : (command : Command) (words : List ℕ) (offset : ℕ) (x : Runs) → offset ≤ 8192 → offset % 4 ≡ 0 →
     Comes x (does command words offset x).outcome (does command words offset x).runs
@@ -98,98 +107,16 @@ does-comes c.MemSet words offset x l w = stored-comes _ _ _ offset x l w
 does-comes c.MemZero words offset x l w = stored-comes _ _ _ offset x l w
 does-comes c.MemCpy words offset x l w = stored-comes _ _ _ offset x l w
 does-comes c.Append words offset x l w = appended-comes _ _ offset x w
-does-comes c.Unknown words offset x l w = (omega arith, refl)
+does-comes c.Unknown words offset x l w = refl
 
 pub obeyed-comes : (words : List ℕ) (offset : ℕ) (x : Runs) → offset ≤ 8192 → offset % 4 ≡ 0 →
     Comes x (obeyed words offset x).outcome (obeyed words offset x).runs
 unfolding obeyed
 obeyed-comes words offset x l w = does-comes (command_of (get_or words 0 0)) words offset x l w
 
--- THE LENGTHS OF THE RUNS
-pub record Sized (ring : List ℕ) (x : Runs) : Type 0 where
-  pub ring_long : length ring ≡ 4096
-  pub list-long : length x.list ≡ 8192
-  pub shown-long : length x.shown ≡ 8192
-  pub memory-most : length x.memory ≤ 1048576
-
 -- number 37's test of the runs as they are
 abbrev pub is_sized : List ℕ → Runs → Bool
 is_sized ring x = are_sized (length ring) (length x.list) (length x.shown) (length x.memory)
-
-pub sized : (ring : List ℕ) (x : Runs) → is_sized ring x ≡ true → Sized ring x
-unfolding are_sized
-sized ring x e =
-    let t = both_true (eqb (length ring) 4096 && eqb (length x.list) 8192 && eqb (length x.shown) 8192) (leb (length x.memory) 1048576) e in
-    let s = both_true (eqb (length ring) 4096 && eqb (length x.list) 8192) (eqb (length x.shown) 8192) t.0 in
-    let r = both_true (eqb (length ring) 4096) (eqb (length x.list) 8192) s.0 in
-    record {
-      ring_long = eqb-true _ _ r.0;
-      list-long = eqb-true _ _ r.1;
-      shown-long = eqb-true _ _ s.1;
-      memory-most = leb-true _ _ t.1;
-    }
-
-pub measured : (ring : List ℕ) (x : Runs) → Sized ring x → is_sized ring x ≡ true
-unfolding are_sized
-measured ring x s = rw (eq-eqb _ _ s.ring_long, eq-eqb _ _ s.list-long, eq-eqb _ _ s.shown-long, le-leb _ _ s.memory-most)
-
--- a command leaves RAM_DL and the shown list at 8,192 bytes and RAM_G as long as it was
-pub record Long (x y : Runs) : Type 0 where
-  pub list-long : length y.list ≡ 8192
-  pub shown-long : length y.shown ≡ 8192
-  pub memory-long : length y.memory ≡ length x.memory
-
-module _ (x : Runs) (l : Long x x) where
-  listed-long : (new : List ℕ) (offset : ℕ) → Long x (listed new offset x).runs
-  unfolding listed
-  listed-long new offset = go (leb (offset + length new) 8192) refl
-    where
-      go : (t : Bool) → leb (offset + length new) 8192 ≡ t →
-          Long x (cond t (taken (offset + length new) (with_list (laid offset new x.list) x)) (fault 34 x)).runs
-      go true e =
-          let h = leb-true (offset + length new) 8192 e in
-          record { list-long = laid-long offset new x.list (omega arith) ∙ l.list-long; shown-long = l.shown-long; memory-long = refl }
-      go false e = l
-
-  stored-long : (fits : Bool) (at : ℕ) (new : List ℕ) (offset : ℕ) → (fits ≡ true → at + length new ≤ length x.memory) → Long x (stored fits at new offset x).runs
-  unfolding stored
-  stored-long true at new offset h = record { list-long = l.list-long; shown-long = l.shown-long; memory-long = laid-long at new x.memory (h refl) }
-  stored-long false at new offset h = l
-
-  appended-long : (at count offset : ℕ) → Long x (appended at count offset x).runs
-  unfolding appended
-  appended-long at count offset = go (is_inside at count x.memory && eqb (count % 4) 0)
-    where
-      go : (t : Bool) → Long x (cond t (listed (part at count x.memory) offset x) (fault 35 x)).runs
-      go true = listed-long (part at count x.memory) offset
-      go false = l
-
-  filled-long : (at count value offset : ℕ) → Long x (stored (is_inside at count x.memory) at (replicate count value) offset x).runs
-  filled-long at count value offset = stored-long _ at _ offset (λ e. rw length-replicate (inside at count x.memory e))
-
-  copied-long : (at from count offset : ℕ) →
-      Long x (stored (is_inside at count x.memory && is_inside from count x.memory) at (part from count x.memory) offset x).runs
-  copied-long at from count offset =
-      stored-long _ at _ offset
-      (λ e.
-      let t = both_true (is_inside at count x.memory) (is_inside from count x.memory) e in
-      rw (part-long from count x.memory (inside from count x.memory t.1)) (inside at count x.memory t.0))
-
-  pub does-long : (command : Command) (words : List ℕ) (offset : ℕ) → Long x (does command words offset x).runs
-  unfolding does
-  does-long c.Plain words offset = listed-long _ offset
-  does-long c.DlStart words offset = l
-  does-long c.Swap words offset = record { list-long = l.list-long; shown-long = l.list-long; memory-long = refl }
-  does-long c.ColdStart words offset = l
-  does-long c.MemSet words offset = filled-long _ _ _ offset
-  does-long c.MemZero words offset = filled-long _ _ _ offset
-  does-long c.MemCpy words offset = copied-long _ _ _ offset
-  does-long c.Append words offset = appended-long _ _ offset
-  does-long c.Unknown words offset = l
-
-  pub obeyed-long : (words : List ℕ) (offset : ℕ) → Long x (obeyed words offset x).runs
-  unfolding obeyed
-  obeyed-long words offset = does-long (command_of (get_or words 0 0)) words offset
 
 -- A STEP is number 30, a command taken or a fault
 module _ (ring : List ℕ) (m : Marks) (x : Runs) where
@@ -209,25 +136,9 @@ module _ (ring : List ℕ) (m : Marks) (x : Runs) where
       go true e = short
       go false e = there (rw (words_long ring m.read (size_of (command_at ring m))) (ltb-false _ _ e))
 
-  settled-runs : (words : List ℕ) (out : Outcome) (y : Runs) → (settled m words out y).runs ≡ y
-  settled-runs words (o.Taken number offset) y = refl
-  settled-runs words (o.Fault number) y = refl
-
-  step-long : Long x x → Long x (step ring m x).runs
-  step-long l =
-      step-cases (λ r. Long x r.runs) l
-      (λ h. rw (settled-runs (words_at ring m) now.outcome now.runs) (obeyed-long x l (words_at ring m) m.offset))
-
-  pub step-sized : is_sized ring x ≡ true → is_sized ring (step ring m x).runs ≡ true
-  step-sized e =
-      let s = sized ring x e in
-      let l = step-long (record { list-long = s.list-long; shown-long = s.shown-long; memory-long = refl }) in
-      measured ring (step ring m x).runs
-      (record { ring_long = s.ring_long; list-long = l.list-long; shown-long = l.shown-long; memory-most = rw l.memory-long s.memory-most })
-
   settled-most : (words : List ℕ) (out : Outcome) (y : Runs) → length (settled m words out y).commands ≤ 1
-  settled-most words (o.Taken number offset) y = omega arith
-  settled-most words (o.Fault number) y = omega arith
+  settled-most words (Ok taken) y = omega arith
+  settled-most words (Err why) y = omega arith
 
   pub step-most : length (step ring m x).commands ≤ 1
   step-most = step-cases (λ r. length r.commands ≤ 1) (omega arith) (λ h. settled-most (words_at ring m) now.outcome now.runs)
@@ -240,8 +151,8 @@ module _ (ring : List ℕ) (m : Marks) (x : Runs) where
     comes = obeyed-comes (words_at ring m) m.offset x p.offset-most p.offset-whole
 
     settled-places : (words : List ℕ) (out : Outcome) (y : Runs) → Comes x out y → Placed (settled m words out y).marks
-    settled-places words (o.Taken number offset) y k = placed-moved p (length words) offset k.0 k.1
-    settled-places words (o.Fault number) y k = placed-faulted p
+    settled-places words (Ok taken) y k = placed-moved p (length words) taken.offset k.0 k.1
+    settled-places words (Err why) y k = placed-faulted p
 
     pub step-places : are_places (step ring m x).marks ≡ true
     step-places =
@@ -250,8 +161,8 @@ module _ (ring : List ℕ) (m : Marks) (x : Runs) where
 
     settled-exact : (words : List ℕ) (out : Outcome) (y : Runs) → 4 * length words ≤ waiting m →
         4 * length (joined (settled m words out y).commands) + waiting (settled m words out y).marks ≡ waiting m
-    settled-exact words (o.Taken number offset) y h = rw append-nil (omega (arith, waiting-moved p (length words) offset h))
-    settled-exact words (o.Fault number) y h = omega (arith, waiting-faulted m)
+    settled-exact words (Ok taken) y h = rw append-nil (omega (arith, waiting-moved p (length words) taken.offset h))
+    settled-exact words (Err why) y h = omega (arith, waiting-faulted m)
 
     -- what was taken and what waits now is what waited
     pub step-exact : 4 * length (joined (step ring m x).commands) + waiting (step ring m x).marks ≡ waiting m
@@ -259,15 +170,16 @@ module _ (ring : List ℕ) (m : Marks) (x : Runs) where
         step-cases (λ r. 4 * length (joined r.commands) + waiting r.marks ≡ waiting m) (omega arith)
         (λ h. settled-exact (words_at ring m) now.outcome now.runs h)
 
-    settled-one : (words : List ℕ) (out : Outcome) (y : Runs) → Comes x out y → (settled m words out y).number ≡ 0 → (settled m words out y).commands ≡ words ∷ []
-    settled-one words (o.Taken number offset) y k z = refl
-    settled-one words (o.Fault number) y k z = absurd (omega arith)
+    settled-one : (words : List ℕ) (out : Outcome) (y : Runs) → (settled m words out y).number ≡ 0 →
+        (settled m words out y).commands ≡ words ∷ []
+    settled-one words (Ok taken) y z = refl
+    settled-one words (Err why) y z = let h = fault-some why in absurd (omega arith)
 
     -- with number 0 one command was taken
     pub step-took : (step ring m x).number ≡ 0 → (step ring m x).commands ≡ words_at ring m ∷ []
     step-took =
         step-cases (λ r. r.number ≡ 0 → r.commands ≡ words_at ring m ∷ []) (λ z. absurd (omega arith))
-        (λ h. settled-one (words_at ring m) now.outcome now.runs comes)
+        (λ h. settled-one (words_at ring m) now.outcome now.runs)
 
     pub step-one : (step ring m x).number ≡ 0 → length (step ring m x).commands ≡ 1
     step-one z = rw (step-took z)
@@ -313,7 +225,6 @@ pub record Onward (ring : List ℕ) (m₀ : Marks) (x₀ : Runs) (count : ℕ) (
   pub runs : (run ring 1023 m₀ x₀).runs ≡ (run ring (1023 - count) m x).runs
   pub taken : length (run ring 1023 m₀ x₀).commands ≡ count + length (run ring (1023 - count) m x).commands
   pub places : are_places m ≡ true
-  pub sizes : is_sized ring x ≡ true
   pub waits : waiting m ≤ 4 * (1023 - count)
 
 -- how it ended
@@ -321,8 +232,8 @@ pub record Ended (r : Ran) (number place count : ℕ) (m : Marks) (x : Runs) : T
   pub tells : run_answer r ≡ record { number = number; place = place; count = count; marks = m }
   pub leaves : r.runs ≡ x
 
-pub onward-none : (ring : List ℕ) (m : Marks) (x : Runs) → are_places m ≡ true → is_sized ring x ≡ true → Onward ring m x 0 m x
-onward-none ring m x e s =
+pub onward-none : (ring : List ℕ) (m : Marks) (x : Runs) → are_places m ≡ true → Onward ring m x 0 m x
+onward-none ring m x e =
     record {
       number = refl;
       place = refl;
@@ -330,7 +241,6 @@ onward-none ring m x e s =
       runs = refl;
       taken = sym (zero-add _);
       places = e;
-      sizes = s;
       waits = waiting-most (placed m e);
     }
 
@@ -367,6 +277,5 @@ module _ {ring : List ℕ} {m₀ : Marks} {x₀ : Runs} {count : ℕ} {m : Marks
         runs = on.runs ∙ ap (λ r. r.runs) i;
         taken = omega (arith, on.taken, simp length-append at (ap (λ r. length r.commands) i), step-one ring m x on.places h);
         places = step-places ring m x on.places;
-        sizes = step-sized ring m x on.sizes;
         waits = omega (arith, on.waits);
       }

@@ -7,10 +7,9 @@ use native.Mathlib.Nat.{add-suc, add-zero, suc-add, zero-add}
 use native.Mathlib.Decide.{ℕ_discrete}
 use native.Mathlib.Omega.{arith}
 use lib.ListN.{length, length-append}
-use Rattle.ring.specs.declared.command.Outcome.{Outcome}
-use Rattle.ring.specs.declared.command.Outcome.TheVariants as o
 use Rattle.ring.specs.declared.marks.Marks.{Marks}
-use Rattle.ring.specs.Command.{Runs, size_of}
+use Rattle.std.specs.Prelude.{Ok, Err}
+use Rattle.ring.specs.Command.{Runs, Outcome, size_of}
 use Rattle.ring.specs.Flow.{all_obeyed, joined, offset_after}
 use Rattle.ring.specs.Ring.{around, waiting, word_from, words_from, each, queue, are_places}
 use Rattle.ring.specs.Run.{Ran, stopped, moved_on, command_at, words_at, settled, step, run}
@@ -55,8 +54,8 @@ module _ (ring : List ℕ) where
     settled-queue : (k : ℕ) (out : Outcome) (y : Runs) → 4 * k ≤ waiting m →
         queue ring m ≡ joined (settled m (words_from ring m.read k) out y).commands ++ queue ring (settled m (words_from ring m.read k) out y).marks
     unfolding queue waiting
-    settled-queue k (o.Taken number offset) y h = rw (append-nil, words_long ring m.read k) (moved-queue m (placed m e) k offset h)
-    settled-queue k (o.Fault number) y h = refl
+    settled-queue k (Ok taken) y h = rw (append-nil, words_long ring m.read k) (moved-queue m (placed m e) k taken.offset h)
+    settled-queue k (Err why) y h = refl
 
     step-queue : queue ring m ≡ joined (step ring m x).commands ++ queue ring (step ring m x).marks
     step-queue =
@@ -113,8 +112,8 @@ module _ (ring : List ℕ) where
     left r = r.runs ≡ all_obeyed r.commands m.offset x
 
     settled-left : (out : Outcome) (y : Runs) → out ≡ (now ring m x).outcome → y ≡ (now ring m x).runs → Comes x out y → left (settled m (words_at ring m) out y)
-    settled-left (o.Taken number offset) y p q k = q
-    settled-left (o.Fault number) y p q k = k.1
+    settled-left (Ok taken) y p q k = q
+    settled-left (Err why) y p q k = k
 
     step_left : left (step ring m x)
     step_left =
@@ -122,8 +121,8 @@ module _ (ring : List ℕ) where
         (λ h. settled-left (now ring m x).outcome (now ring m x).runs refl refl (obeyed-comes (words_at ring m) m.offset x (placed m e).offset-most (placed m e).offset-whole))
 
     settled-offset : (out : Outcome) (y : Runs) → (settled m (words_at ring m) out y).marks.offset ≡ offset_after out m.offset
-    settled-offset (o.Taken number offset) y = refl
-    settled-offset (o.Fault number) y = refl
+    settled-offset (Ok taken) y = refl
+    settled-offset (Err why) y = refl
 
     step-offset : (step ring m x).number ≡ 0 → (step ring m x).marks.offset ≡ offset_after (now ring m x).outcome m.offset
     step-offset =

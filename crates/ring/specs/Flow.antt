@@ -1,11 +1,10 @@
 -- What holds of the host's words and the run together. Document 01, 'The ring': 'A run stops at idle, waiting, swap or fault, after at most 1,023 commands';
 -- '36 already in fault'; 'Taken room is free again'. Nothing here asks that a call was not refused.
-use Rattle.std.specs.Prelude.{◌≡◌, Bool, true, false, cond, List, [], ◌∷◌, ◌++◌, ℕ, ◌+◌, ◌*◌, ◌/◌, ◌≤◌, ◌<◌, eqb, length}
+use Rattle.std.specs.Prelude.{◌≡◌, Bool, true, false, cond, List, [], ◌∷◌, ◌++◌, ℕ, ◌+◌, ◌*◌, ◌/◌, ◌≤◌, ◌<◌}
+use Rattle.std.specs.Prelude.{eqb, length, Ok, Err}
 use Rattle.runs.specs.Runs.{word_at}
 use Rattle.ring.specs.declared.marks.Marks.{Marks}
-use Rattle.ring.specs.declared.command.Outcome.{Outcome}
-use Rattle.ring.specs.declared.command.Outcome.TheVariants as o
-use Rattle.ring.specs.Command.{Runs, obeyed}
+use Rattle.ring.specs.Command.{Runs, Outcome, obeyed}
 use Rattle.ring.specs.Host.{put, refused, room}
 use Rattle.ring.specs.Ring.{each, queue, are_places, is_free}
 use Rattle.ring.specs.Run.{Ran, run, ran, stopped}
@@ -21,8 +20,8 @@ joined (words ∷ rest) = words ++ joined rest
 
 -- what commands leave that are obeyed one after another, each with the list offset that the one before it left
 abbrev pub offset_after : Outcome → ℕ → ℕ
-offset_after (o.Taken number offset) before = offset
-offset_after (o.Fault number) before = before
+offset_after (Ok taken) before = taken.offset
+offset_after (Err why) before = before
 
 abbrev pub all_obeyed : List (List ℕ) → ℕ → Runs → Runs
 all_obeyed [] offset x = x

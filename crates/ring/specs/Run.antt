@@ -1,13 +1,11 @@
 -- The run, and what the call answers and leaves. Document 01, 'The ring': the marks 'move on as each command is taken'; 'A run stops at idle, waiting, swap or
 -- fault, after at most 1,023 commands'; the numbers 0, 30 to 37 with their order, place and count.
-use Rattle.std.specs.Prelude.{◌≡◌, Bool, cond, ◌&&◌, List, [], ◌∷◌, ◌++◌, ℕ, zero, suc, ◌*◌, eqb, leb, ltb, length}
+use Rattle.std.specs.Prelude.{◌≡◌, Bool, cond, ◌&&◌, List, [], ◌∷◌, ◌++◌, ℕ, zero, suc, ◌*◌, eqb, leb, ltb, length, Ok, Err}
 use Rattle.truth.specs.Must.{must}
-use Rattle.ring.specs.declared.command.Outcome.{Outcome}
-use Rattle.ring.specs.declared.command.Outcome.TheVariants as o
 use Rattle.ring.specs.declared.marks.Answer.{Answer}
 use Rattle.ring.specs.declared.marks.Marks.{Marks}
 use Rattle.ring.specs.declared.command.Command.{Command}
-use Rattle.ring.specs.Command.{Runs, lent, command_of, size_of, obeyed}
+use Rattle.ring.specs.Command.{Runs, Outcome, fault_number, lent, command_of, size_of, obeyed}
 use Rattle.ring.specs.Ring.{around, waiting, word_from, words_from, are_places, is_free}
 
 -- how a run ended: number and place, the commands that it took, in order and each with its words, and what it left
@@ -37,9 +35,16 @@ abbrev pub words_at : List ℕ → Marks → List ℕ
 words_at ring m = words_from ring m.read (size_of (command_at ring m))
 
 abbrev pub settled : Marks → List ℕ → Outcome → Runs → Ran
-settled m words (o.Taken number offset) x =
-    record { number = number; place = 0; commands = words ∷ []; marks = moved_on m (length words) offset; runs = x }
-settled m words (o.Fault number) x = record { number = number; place = m.read; commands = []; marks = faulted m; runs = x }
+settled m words (Ok taken) x =
+    record {
+      number = cond taken.swaps 31 0;
+      place = 0;
+      commands = words ∷ [];
+      marks = moved_on m (length words) taken.offset;
+      runs = x;
+    }
+settled m words (Err why) x =
+    record { number = fault_number why; place = m.read; commands = []; marks = faulted m; runs = x }
 
 -- number 30: 'parameters not all there, that command not taken', before 32, 34 and 35
 unfoldable pub step : List ℕ → Marks → Runs → Ran

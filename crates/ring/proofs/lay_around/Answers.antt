@@ -9,7 +9,8 @@ use Rattle.ring.proofs.lay_around.Goals as goal
 pub returns-then-words-before_end : goal.returns-then-words-before_end
 returns-then-words-before_end c =
     let h : c.args.at + length c.args.words.now ≤ 4096 = omega (arith, c.requires, c.if-words-before_end.true) in
-    copied_tail c.args.at c.args.ring.now c.args.words.now _ (omega (arith, h, c.requires)) c.copy.ensures ∙ sym (short-around _ _ _ c.requires.0 h)
+    copied_tail c.args.at 4096 c.args.ring.now c.args.words.now _ c.told-ring h c.copy.ensures
+    ∙ sym (short-around _ _ _ c.told-ring h)
 
 pub returns : goal.returns
 returns c =
@@ -17,5 +18,5 @@ returns c =
     let words = c.args.words.now in
     let ring = c.args.ring.now in
     let n = length-take-le (4096 - at) words (omega (arith, c.if-words-before_end.false)) in
-    let e = copied_tail at ring (take (4096 - at) words) _ (omega (arith, n, c.requires)) c.copy-2.ensures in
+    let e = copied_tail at 4096 ring (take (4096 - at) words) _ c.told-ring (omega (arith, n, c.requires)) c.copy-2.ensures in
     rw (take_all (length words - (4096 - at)) (drop (4096 - at) words) (simp length-drop (omega arith))) at c.copy-3.ensures ∙ sym (long-around at words ring _ e)

@@ -6,12 +6,11 @@ use Rattle.ring.proofs.Lending.{flooded}
 use Rattle.ring.proofs.Steps.{inside}
 use Rattle.ring.proofs.command.fill.Goals as goal
 
-pub slice_bounds-flood-end : goal.slice_bounds-flood-end
-slice_bounds-flood-end c = inside _ _ _ (sym c.is_inside.ensures ∙ c.if-not-is_inside.false)
-
 pub returns : goal.returns
 unfolding stored
 returns c =
     let a = c.args in
     let f = sym c.is_inside.ensures ∙ c.if-not-is_inside.false in
-    λ list shown. rw f (ap (λ (m : List ℕ). taken a.offset (lent list shown m)) (flooded a.at a.count (a.value % 2 ^ 8) a.memory.now _ (inside _ _ _ f) c.flood.ensures))
+    let fits = inside _ _ _ f in
+    let new = flooded a.at a.count (a.value % 2 ^ 8) a.memory.now _ fits (c.fill.ensures.after (λ y h. h)) in
+    λ list shown offset. rw f (ap (λ (m : List ℕ). taken offset (lent list shown m)) new)
