@@ -1,10 +1,12 @@
 -- What std writes of a number, by `{:02x}` and by `{}`, is the text that specs/Text.antt says.
-use Rattle.std.proofs.Common.{ℕ, zero, suc, ◌+◌, ◌-◌, ◌^◌, ◌<◌, ◌/◌, ◌%◌, ◌≡◌, List, [], ◌∷◌, ◌++◌, false, sym, arith, rules, ◌≤◌}
+use Rattle.std.proofs.Common.{◌≡◌, sym, false, ℕ, zero, suc, ◌+◌, ◌-◌, ◌/◌, ◌%◌, ◌^◌, ◌<◌, ◌≤◌, List, [], ◌∷◌, ◌++◌, arith, rules}
 use Rattle.std.specs.Fmt.{decimal, digits, format_spec, padded_integral}
 use Rattle.std.proofs.lemmas.Fmt.{AppendsLastDigit, decimal_from_appends, hex_byte, length-decimal-le}
 use Rattle.rowshow.specs.Text.{decimal_text, decimal_within, hex_text}
 
-pub hex_printed : (byte : ℕ) → byte < 256 → padded_integral (format_spec 32 0 4 2 (2 ^ 64 - 1)) false [] (digits 16 false byte) ≡ hex_text byte
+pub hex_printed :
+    (byte : ℕ) → byte < 256 →
+    padded_integral (format_spec 32 0 4 2 (2 ^ 64 - 1)) false [] (digits 16 false byte) ≡ hex_text byte
 unfolding hex_text
 hex_printed byte small = hex_byte false byte small
 
@@ -27,4 +29,6 @@ appends = record { one = one; more = more }
 
 pub decimal_printed : (n : ℕ) → n < 2 ^ 32 → decimal n ≡ decimal_text n
 unfolding decimal_text
-decimal_printed n small = sym (decimal_from_appends within appends 10 n (omega arith) (length-decimal-le 10 n (omega arith) (omega arith) (omega arith)))
+decimal_printed n small =
+    let short = length-decimal-le 10 n (omega arith) (omega arith) (omega arith) in
+    sym (decimal_from_appends within appends 10 n (omega arith) short)

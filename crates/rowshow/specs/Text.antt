@@ -16,7 +16,12 @@ pixel_text red green blue tag = hex_text red ++ (hex_text green ++ (hex_text blu
 
 -- the text of its pixel k: three bytes R G B in one run, the tag byte in a second
 abbrev pub pixel_text_at : List ℕ → List ℕ → ℕ → List ℕ
-pixel_text_at picture tags k = pixel_text (get_or picture (3 * k) 0) (get_or picture (3 * k + 1) 0) (get_or picture (3 * k + 2) 0) (get_or tags k 0)
+pixel_text_at picture tags k =
+    pixel_text
+    (get_or picture (3 * k) 0)
+    (get_or picture (3 * k + 1) 0)
+    (get_or picture (3 * k + 2) 0)
+    (get_or tags k 0)
 
 -- pixels 1 to k, each behind a space
 abbrev pub pixels_after : List ℕ → List ℕ → ℕ → List ℕ
@@ -30,7 +35,11 @@ row_text picture tags = pixel_text_at picture tags 0 ++ (pixels_after picture ta
 -- A NUMBER in base 10, without zeros in front, where `more` digits and one hold it
 unfoldable pub decimal_within : ℕ → ℕ → List ℕ
 decimal_within zero n = hex_digit_ascii (n % 10) ∷ []
-decimal_within (suc more) n = cond (ltb n 10) (hex_digit_ascii (n % 10) ∷ []) (decimal_within more (n / 10) ++ (hex_digit_ascii (n % 10) ∷ []))
+decimal_within (suc more) n =
+    cond
+    (ltb n 10)
+    (hex_digit_ascii (n % 10) ∷ [])
+    (decimal_within more (n / 10) ++ (hex_digit_ascii (n % 10) ∷ []))
 
 -- of a number of 32 bits, which ten digits hold
 unfoldable pub decimal_text : ℕ → List ℕ
@@ -57,4 +66,7 @@ fault_text number place count =
 -- of an answer and the row that it left
 abbrev pub answer_text : ℕ → ℕ → ℕ → List ℕ → List ℕ → List ℕ
 answer_text number place count picture tags =
-    cond (eqb number 0) (done_text count picture tags) (cond (ltb number 5) (refused_text number) (fault_text number place count))
+    cond
+    (eqb number 0)
+    (done_text count picture tags)
+    (cond (ltb number 5) (refused_text number) (fault_text number place count))

@@ -28,8 +28,8 @@ fn show(list: &[u8]) -> Shown
 const MOST_BYTES: usize = 8193;
 
 // `show` is proved, and so is the text that `Shown` prints. Of `main` no contract speaks: what it reads and writes is
-// run and compared, on this crate's stdin and stdout and by tests/rowshow. A read or a write that fails ends the program
-// with its error.
+// run and compared, on this crate's stdin and stdout and by tests/rowshow. A read or a write that fails ends the
+// program with its error.
 fn main(rt: HostRuntime) -> io::Result<()> {
     let mut list = ArrayVec::<u8, MOST_BYTES>::new();
     io::copy(&mut rt.stdin().take(MOST_BYTES as u64), &mut list)?;
