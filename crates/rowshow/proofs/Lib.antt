@@ -1,3 +1,2 @@
-pub mod Appending
-pub mod Decimals
+pub mod Printing
 pub mod Showing
