@@ -1,0 +1,14 @@
+use Rattle.engine.specs.Run.{actions_of}
+use Rattle.paint.proofs.Stacks.{Filled}
+use Rattle.paint.specs.Picture.{row_colours, row_in, row_tags}
+use Rattle.paint.specs.Runs.{Tells}
+use lib.ListN.{length}
+use mathlib.Core.Bool.{Bool, cond}
+use Prim.Native.Nat.{ℕ, ◌+◌, ◌*◌}
+use Rattle.paint.proofs.paint.Given as goal
+
+abbrev pub invariant-loop-y : goal.invariant-loop-y
+invariant-loop-y g l =
+    (wanted : ℕ → Bool) → Tells (λ y told. goal.W-post g l.is_wanted y told) l.count wanted →
+    Filled (λ y. cond (wanted y) (row_colours l.memory (actions_of l.list (length l.memory) l.limit) l.width (l.first + y)) (row_in l.fn.picture (3 * l.width) y)) (3 * l.width) l.count l.fn.picture l.picture l.y
+    × Filled (λ y. cond (wanted y) (row_tags l.memory (actions_of l.list (length l.memory) l.limit) l.width (l.first + y)) (row_in l.fn.tags l.width y)) l.width l.count l.fn.tags l.tags l.y
