@@ -1,5 +1,5 @@
-// Rows of the picture that a list draws. The list is run once; then each row is drawn by itself, from 0, out of the actions
-// that reach it.
+// Rows of the picture that a list draws. The list is run once; then each row is drawn by itself, from 0, out of the
+// actions that reach it.
 #![tactic(auto)]
 
 ghost use Rattle.std.specs.Prelude.{Bool, ℕ, ◌≡◌, ◌<◌, ◌≤◌, ◌+◌, ◌*◌, length};
@@ -32,8 +32,13 @@ impl<'a> Painter<'a> {
     // Draws the kept actions into row y, each that can reach it.
     fn draw_kept(&self, y: u32, row: &mut Row)
         requires { y < tallest }
-        ensures { DrawnAll self.now.memory.now (kept_up_to self.now.kept.now.numbers self.now.kept.now.places self.now.kept.now.count)
-            self.now.width (pixel_at y) (pixels row.old) (pixels row.new) }
+        ensures { DrawnAll
+            self.now.memory.now
+            (kept_up_to self.now.kept.now.numbers self.now.kept.now.places self.now.kept.now.count)
+            self.now.width
+            (pixel_at y)
+            (pixels row.old)
+            (pixels row.new) }
     {
         let kept = self.kept;
         for k in 0..kept.count {
@@ -48,8 +53,13 @@ impl<'a> Painter<'a> {
     // Runs the list anew and draws each of its actions into row y.
     fn draw_list(&self, y: u32, row: &mut Row)
         requires { y < tallest }
-        ensures { DrawnAll self.now.memory.now (actions_of self.now.list.now (length self.now.memory.now) self.now.limit)
-            self.now.width (pixel_at y) (pixels row.old) (pixels row.new) }
+        ensures { DrawnAll
+            self.now.memory.now
+            (actions_of self.now.list.now (length self.now.memory.now) self.now.limit)
+            self.now.width
+            (pixel_at y)
+            (pixels row.old)
+            (pixels row.new) }
     {
         let memory = self.memory;
         let mut handles = [0; engine::SETTINGS];
@@ -75,9 +85,18 @@ impl<'a> Painter<'a> {
 
     // Row y, from 0: nothing of what was lent is left.
     fn paint_row(&self, y: u32, picture: &mut [u8], tags: &mut [u8])
-        requires { (y < tallest) × ((length picture.old ≡ 3 * self.now.width) × (length tags.old ≡ self.now.width)) }
-        ensures picture_after { picture.new ≡ row_colours self.now.memory.now (actions_of self.now.list.now (length self.now.memory.now) self.now.limit) self.now.width y }
-        ensures tags_after { tags.new ≡ row_tags self.now.memory.now (actions_of self.now.list.now (length self.now.memory.now) self.now.limit) self.now.width y }
+        requires { (y < tallest)
+            × ((length picture.old ≡ 3 * self.now.width) × (length tags.old ≡ self.now.width)) }
+        ensures picture_after { picture.new ≡ row_colours
+            self.now.memory.now
+            (actions_of self.now.list.now (length self.now.memory.now) self.now.limit)
+            self.now.width
+            y }
+        ensures tags_after { tags.new ≡ row_tags
+            self.now.memory.now
+            (actions_of self.now.list.now (length self.now.memory.now) self.now.limit)
+            self.now.width
+            y }
     {
         let mut row = Row::blank();
         if self.kept.all {
@@ -89,9 +108,9 @@ impl<'a> Painter<'a> {
     }
 }
 
-// Paints of so many rows, from `first` on, those that are wanted, each straight into its part of the runs, and leaves every
-// other row.
-fn paint<W: Fn(usize) -> bool>(
+// Paints of so many rows, from `first` on, those that are wanted, each into its part of the runs, and leaves every other
+// row.
+fn paint_wanted<W: Fn(usize) -> bool>(
     list: &[u8],
     memory: &[u8],
     limit: u32,
@@ -106,8 +125,16 @@ fn paint<W: Fn(usize) -> bool>(
     requires count_bound { (first + count ≤ tallest) × HoldRows width count picture.old tags.old }
     requires callable { (y : ℕ) → y < count → W.pre is_wanted y }
     ensures { (wanted : ℕ → Bool) → Tells (W.post is_wanted) count wanted →
-        (picture.new ≡ wanted_rows wanted (λ y. row_colours memory.now (actions_of list.now (length memory.now) limit) width (first + y)) (3 * width) count picture.old)
-        × (tags.new ≡ wanted_rows wanted (λ y. row_tags memory.now (actions_of list.now (length memory.now) limit) width (first + y)) width count tags.old) }
+        (picture.new ≡ wanted_rows wanted
+        (λ y. row_colours memory.now (actions_of list.now (length memory.now) limit) width (first + y))
+        (3 * width)
+        count
+        picture.old)
+        × (tags.new ≡ wanted_rows wanted
+        (λ y. row_tags memory.now (actions_of list.now (length memory.now) limit) width (first + y))
+        width
+        count
+        tags.old) }
 {
     let mut kept = Kept::none();
     kept.gather(list, memory.len() as u32, limit);
@@ -132,7 +159,7 @@ fn paint<W: Fn(usize) -> bool>(
     }
 }
 
-// Paints so many rows of the frame, from `first` on, each straight into its part of the runs.
+// Paints so many rows of the frame, from `first` on, each into its part of the runs.
 pub fn paint_rows(
     list: &[u8],
     memory: &[u8],
@@ -148,7 +175,7 @@ pub fn paint_rows(
     ensures picture_after { picture.new ≡ colours_from memory.now (actions_of list.now (length memory.now) limit) width first count }
     ensures tags_after { tags.new ≡ tags_from memory.now (actions_of list.now (length memory.now) limit) width first count }
 {
-    paint(
+    paint_wanted(
         list,
         memory,
         limit,
@@ -161,7 +188,7 @@ pub fn paint_rows(
     );
 }
 
-// Paints the rows that are marked, each straight into its part of the runs, and leaves every other row.
+// Paints the rows that are marked, each into its part of the runs, and leaves every other row.
 pub fn paint_marked(
     list: &[u8],
     memory: &[u8],
@@ -182,7 +209,7 @@ pub fn paint_marked(
         width
         tags.old }
 {
-    paint(
+    paint_wanted(
         list,
         memory,
         limit,

@@ -1,10 +1,10 @@
-// One row in work, from 0 on, and one action drawn into it. `draw` shows the order: which columns the action reaches,
-// whether it does the same to all of them, and then the columns one by one.
+// One row in work, and one action drawn into it. `draw` shows the order: which columns the action reaches, whether it does
+// the same to all of them, and then the columns one by one.
 ghost use Rattle.std.specs.Prelude.{◌≡◌, ◌<◌, ◌≤◌, ◌*◌, length};
 ghost use Rattle.shape.specs.OneRow.{InFrame};
 ghost use Rattle.units.specs.Units.{count_before, widest};
 ghost use Rattle.paint.specs.Picture.{colours_of, tags_of};
-ghost use Rattle.paint.specs.Runs.{Does, Drawn, Blank, PlainDrawing, Swept, Touched, held, inked, pixels, texel_in};
+ghost use Rattle.paint.specs.Runs.{Blank, Does, Drawn, PlainDrawing, Swept, Touched, held, inked, pixels, texel_in};
 
 use action::{Action, Bitmap, Colour, Drawing, Ink, Masks};
 use pixel::{Pixel, Plain};
@@ -13,7 +13,7 @@ use units::{Pixels, WIDEST};
 
 const COLUMNS: usize = WIDEST as usize;
 
-// Three colour bytes a pixel, and one of each other kind.
+// Red, green and blue of each pixel, and its tag, alpha and stencil.
 #[derive(Drop)]
 pub struct Row {
     pub colours: [u8; 3 * COLUMNS],
@@ -44,15 +44,14 @@ fn texel_at(bitmap: Option<Bitmap>, p: Pixels, q: Pixels, memory: &[u8]) -> Colo
         None => pixel::white(),
         Some(bitmap) => {
             let area = bitmap.area;
-            let column = units::less(p.0, area.left.0);
-            let line = units::less(q.0, area.top.0);
+            let column = p.0.saturating_sub(area.left.0);
+            let line = q.0.saturating_sub(area.top.0);
             texel::texel(bitmap, column, line, memory)
         }
     }
 }
 
 impl Row {
-    #[tactic(auto, using(crate::proofs::Rows::blank_at))]
     pub fn blank() -> Row
         ensures { Blank result }
     {
@@ -93,8 +92,7 @@ impl Row {
         self.tags[x] = pixel.tag;
     }
 
-    // Does the step to each column that the chord holds. A flat chord holds all of its columns, so that none needs to be
-    // asked about.
+    // Does the step to each column that the chord holds. A flat chord holds all of its columns: none is asked about.
     fn sweep<F: Fn(Pixels, Pixel) -> Pixel>(&mut self, chord: Chord, width: u32, step: F)
         requires { (width ≤ widest) × F.IsAlwaysCallable step }
         ensures { (does : _) → Does (F.post step) does → Swept
@@ -116,7 +114,7 @@ impl Row {
         }
     }
 
-    // Each column that is reached, by the pixel before.
+    // One call of `paint` for all drawings with an ink, so that the compiler puts it into the loop.
     fn ink(
         &mut self,
         chord: Chord,

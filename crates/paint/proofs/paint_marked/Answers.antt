@@ -6,5 +6,5 @@ use Rattle.paint.proofs.paint_marked.Goals as goal
 
 pub returns : goal.returns
 returns c =
-    let p = c.paint.ensures (is_marked c.args.marks.now) (search rules) in
+    let p = c.paint_wanted.ensures (is_marked c.args.marks.now) (search rules) in
     record { picture_after = p.0 ∙ patched-is _ _ _ _; tags_after = p.1 ∙ patched-is _ _ _ _ }

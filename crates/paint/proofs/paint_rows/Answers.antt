@@ -4,4 +4,4 @@ use Rattle.paint.proofs.paint_rows.Goals as goal
 
 pub returns : goal.returns
 returns c =
-    let p = c.paint.ensures (λ _. true) (search rules) in record { picture_after = p.0; tags_after = p.1 }
+    let p = c.paint_wanted.ensures (λ _. true) (search rules) in record { picture_after = p.0; tags_after = p.1 }

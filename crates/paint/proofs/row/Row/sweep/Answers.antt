@@ -1,5 +1,6 @@
 use Rattle.paint.proofs.Sweeps.{asked-of, swept_all, swept-more, swept_none, touched-held, touched-left}
 use Rattle.shape.specs.OneRow.{holds_in}
+use Rattle.paint.specs.Runs.{pixels}
 use Rattle.units.specs.Units.{pixel_at}
 use Rattle.units.proofs.Meaning.{pixels-at}
 use mathlib.Core.Bool.{true}
@@ -25,7 +26,7 @@ loop-x-preserved g c = (
               | then-flat-via-else-flat+then-holds u ↦ asked-of _ c.of-p.ensures u.holds.ensures u.if-holds.true
             ] in
             let called = same c.loop-x.x _ _ (rw (pixels-at c.of-p.ensures) at w.step.ensures) in
-            rw w.self-is (swept-more _ _ _ _ _ _ c.loop-x.auto.x v (touched-held _ _ _ is (rw w.pixel-before.ensures at called) w.set.ensures))
+            rw w.self-is (swept-more _ _ _ _ _ _ c.loop-x.auto.x v (touched-held _ _ _ {now = pixels w.set.new.self} is (rw w.pixel-before.ensures at called) w.set.ensures))
         | else-flat+else-holds w ↦
             rw w.self-is (swept-more _ _ _ _ _ _ c.loop-x.auto.x v (touched-left _ _ _ (asked-of _ c.of-p.ensures w.holds.ensures w.if-holds.false)))
       ],

@@ -5,7 +5,7 @@ use Rattle.paint.specs.Runs.{Tells}
 use lib.ListN.{length}
 use mathlib.Core.Bool.{Bool, cond}
 use Prim.Native.Nat.{ℕ, ◌+◌, ◌*◌}
-use Rattle.paint.proofs.paint.Given as goal
+use Rattle.paint.proofs.paint_wanted.Given as goal
 
 abbrev pub invariant-loop-y : goal.invariant-loop-y
 invariant-loop-y g l =
