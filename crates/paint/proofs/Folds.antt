@@ -2,7 +2,7 @@
 use mathlib.Core.Logic.{⊎_elim}
 use mathlib.Core.List.{List, [], ◌∷◌, ◌++◌}
 use mathlib.Core.Path.{◌≡◌, refl, sym, ◌∙◌, ap}
-use Prim.Native.Nat.{ℕ, zero, suc, ◌+◌, ◌*◌, ◌<◌}
+use Prim.Native.Nat.{ℕ, zero, suc, ◌+◌, ◌<◌}
 use native.Mathlib.Nat.{eq-or-lt_of_le}
 use native.Mathlib.Numerals.{add-one}
 use native.Mathlib.Omega.{arith}
@@ -13,6 +13,7 @@ use Rattle.units.specs.declared.Pixels.{Pixels}
 use Rattle.units.specs.Units.{pixel_at}
 use Rattle.paint.specs.Actions.{AllBands, Keeps, kept_up_to}
 use Rattle.paint.specs.Picture.{drawn_at, drawn_by}
+use Rattle.paint.specs.declared.kept.Kept.{Kept}
 use Rattle.paint.specs.Runs.{Drawn, DrawnAll}
 
 -- drawing the whole from the start comes to drawing the rest from here
@@ -77,12 +78,13 @@ kept_same numbers places numbers' places' (suc n) same =
     rw (kept_same numbers places numbers' places' n (λ j h. same j (omega arith)), same n (omega arith))
 
 -- one action more was kept
-module _ (action : Action) (k : ℕ) (numbers places bands numbers' places' bands' : List ℕ) (put : Keeps action k numbers places bands numbers' places' bands') where
-  pub keeps-list : kept_up_to numbers' places' (k + 1) ≡ kept_up_to numbers places k ++ (action ∷ [])
-  keeps-list = kept_more numbers' places' k ∙ rw (kept_same numbers places numbers' places' k put.others, put.kept)
+module _ {action : Action} {old now : Kept} (keeps : Keeps action old now) where
+  pub keeps-list : kept_up_to now.numbers now.places now.count ≡ kept_up_to old.numbers old.places old.count ++ (action ∷ [])
+  unfolding kept_up_to
+  keeps-list = rw (keeps.counted, kept_same old.numbers old.places now.numbers now.places old.count keeps.others, keeps.kept)
 
-  pub keeps-bands : AllBands numbers places bands k → AllBands numbers' places' bands' (k + 1)
+  pub keeps-bands : AllBands old.numbers old.places old.bands old.count → AllBands now.numbers now.places now.bands now.count
   keeps-bands all j h =
-      ⊎_elim (λ (e : j ≡ k). rw e put.banded)
-      (λ (b : j < k). rw (put.others j b, put.other_bands (2 * j) (omega arith), put.other_bands (2 * j + 1) (omega arith)) (all j b))
-      (eq-or-lt_of_le (omega arith))
+      ⊎_elim (λ (e : j ≡ old.count). rw e keeps.banded)
+      (λ (b : j < old.count). rw (keeps.others j b, keeps.other_bands j b) (all j b))
+      (eq-or-lt_of_le (omega (arith, keeps.counted)))

@@ -1,53 +1,25 @@
--- A run from one action to the next.
-use mathlib.Core.Bool.{true}
-use mathlib.Core.List.{List, [], ◌∷◌, ◌++◌, append_assoc}
-use mathlib.Core.Path.{◌≡◌, refl, ◌∙◌, ap}
-use Prim.Native.Nat.{ℕ, ◌+◌, ◌<◌}
+-- The actions of a run, kept one after another.
+use mathlib.Core.Bool.{false}
+use mathlib.Core.List.{List, ◌∷◌, ◌++◌, append_assoc}
+use mathlib.Core.Path.{◌≡◌, ◌∙◌}
+use Prim.Native.Nat.{ℕ}
 use Rattle.action.specs.declared.Action.{Action}
-use Rattle.engine.specs.Advance.{Advances, Spent, heard, then}
-use Rattle.engine.specs.Run.{Ran, run}
-use Rattle.engine.specs.declared.handles.Handles.{Handles}
-use Rattle.engine.specs.declared.kept.Engine.{Engine}
-use Rattle.engine.specs.declared.run.Advanced.{Advanced}
-use Rattle.engine.specs.declared.run.Find.TheVariants as f
-use Rattle.engine.specs.declared.run.Stop.{Stop}
-use Rattle.paint.specs.Actions.{AllBands, Keeps, Rooms, kept_up_to}
+use Rattle.engine.specs.Running.{actions_left}
+use Rattle.engine.specs.declared.running.Run.{Run}
+use Rattle.paint.specs.Actions.{AllBands, Keeps, kept_up_to}
+use Rattle.paint.specs.declared.kept.Kept.{Kept}
 use Rattle.paint.proofs.Folds.{keeps-list}
 
--- the actions that a run gives from a state on
-abbrev pub actions_from : List ℕ → ℕ → ℕ → Engine → Handles → List Action
-actions_from list memory left engine handles = (run list memory left (record { engine = engine; handles = handles })).actions
-
--- none where no word is allowed
-pub none_allowed : (list : List ℕ) (memory : ℕ) (engine : Engine) (handles : Handles) → actions_from list memory 0 engine handles ≡ []
-unfolding run
-none_allowed list memory engine handles = refl
-
-module _ {list : List ℕ} {memory left : ℕ} {engine : Engine} {handles after : Handles} {a : Advanced}
-    (went : Advances list memory left true (record { engine = engine; handles = handles }) a after) where
-  pub next-action :
-      (action : Action) → a.find ≡ f.Drew action → actions_from list memory left engine handles ≡ action ∷ actions_from list memory a.left a.engine after
-  unfolding heard then
-  next-action action e = ap (λ (r : Ran). r.actions) went.whole ∙ rw e
-
-  pub no-action : (stop : Stop) → a.find ≡ f.Over stop → actions_from list memory left engine handles ≡ []
-  unfolding heard then
-  no-action stop e = ap (λ (r : Ran). r.actions) went.whole ∙ rw e
-
-  pub fewer : (action : Action) → a.find ≡ f.Drew action → a.left < left
-  unfolding Spent
-  fewer action e = (rw e at went.spent).1
-
 -- what holds at each turn while actions are gathered
-pub record Gathering (list : List ℕ) (memory : ℕ) (whole : List Action) (handles : Handles) (numbers places bands : List ℕ) (engine : Engine) (left count : ℕ) : Type 0 where
-  pub rooms : Rooms numbers places bands
-  pub banded : AllBands numbers places bands count
-  pub parts : whole ≡ kept_up_to numbers places count ++ actions_from list memory left engine handles
+pub record Gathering (whole : List Action) (k : Kept) (run : Run) (turn : ℕ) : Type 0 where
+  pub still : k.all ≡ false
+  pub turns : k.count ≡ turn
+  pub banded : AllBands k.numbers k.places k.bands k.count
+  pub parts : whole ≡ kept_up_to k.numbers k.places k.count ++ actions_left run
 
 -- one action more is kept
 pub joined :
-    (whole : List Action) (action : Action) (rest rest' : List Action) (k : ℕ) (numbers places bands numbers' places' bands' : List ℕ) →
-    whole ≡ kept_up_to numbers places k ++ rest → rest ≡ action ∷ rest' → Keeps action k numbers places bands numbers' places' bands' →
-    whole ≡ kept_up_to numbers' places' (k + 1) ++ rest'
-joined whole action rest rest' k numbers places bands numbers' places' bands' e n kept =
-    e ∙ rw (n, keeps-list action k numbers places bands numbers' places' bands' kept, append_assoc)
+    {whole : List Action} {action : Action} {rest rest' : List Action} {old now : Kept} →
+    whole ≡ kept_up_to old.numbers old.places old.count ++ rest → rest ≡ action ∷ rest' → Keeps action old now →
+    whole ≡ kept_up_to now.numbers now.places now.count ++ rest'
+joined e n keeps = e ∙ rw (n, keeps-list keeps, append_assoc)

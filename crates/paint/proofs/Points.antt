@@ -1,14 +1,12 @@
--- One pixel of the runs written: it is read back, and every other pixel is as it was.
+-- One pixel of a row written: it is read back, and every other pixel is as it was.
 use mathlib.Core.List.{List}
-use mathlib.Core.Path.{◌≡◌, refl, ◌∙◌}
+use mathlib.Core.Path.{◌≡◌, ◌∙◌}
 use Prim.Native.Nat.{ℕ, ◌+◌, ◌*◌, ◌<◌}
 use native.Mathlib.Omega.{arith}
 use lib.ListN.{length, get_or, set, length-set}
 use lib.Seq.{get_or-set_same, get_or-set_other}
 use Rattle.pixel.specs.declared.Pixel.{Pixel}
-use Rattle.pixel.specs.declared.plain.Fill.{Fill}
-use Rattle.pixel.specs.Plain.{filled}
-use Rattle.paint.specs.Runs.{Lent, Touched, pixel_in}
+use Rattle.paint.specs.Runs.{Touched, pixel_in}
 
 pub same-pixel :
     (p q : Pixel) → p.red ≡ q.red → p.green ≡ q.green → p.blue ≡ q.blue → p.alpha ≡ q.alpha → p.stencil ≡ q.stencil → p.tag ≡ q.tag → p ≡ q
@@ -43,43 +41,24 @@ module _ (picture : List ℕ) (x r g b : ℕ) where
   elsewhere i e f h =
       get_or-set_other two (3 * x + 2) i b 0 h ∙ get_or-set_other one (3 * x + 1) i g 0 f ∙ get_or-set_other picture (3 * x) i r 0 e
 
-module _ (width x : ℕ) (picture tags alpha stencil : List ℕ) (in_row : x < width) (lent : Lent width picture tags alpha stencil) where
-  pub touched-write :
-      (p : Pixel) →
-      Touched x (λ _. p) (pixel_in picture tags alpha stencil) (pixel_in (three picture x p.red p.green p.blue) (set tags x p.tag) (set alpha x p.alpha) (set stencil x p.stencil))
+module _ (x : ℕ) (colours tags alpha stencil : List ℕ) (p : Pixel) where
+  pub touched_set :
+      3 * x + 2 < length colours → x < length tags → x < length alpha → x < length stencil →
+      Touched x (λ _. p) (pixel_in colours tags alpha stencil)
+      (pixel_in (three colours x p.red p.green p.blue) (set tags x p.tag) (set alpha x p.alpha) (set stencil x p.stencil))
   unfolding pixel_in
-  touched-write p =
+  touched_set h t a s =
       record {
         at =
-            same-pixel _ _ (red-back picture x _ _ _ (omega arith)) (green-back picture x _ _ _ (omega arith)) (blue-back picture x _ _ _ (omega arith))
-            (get_or-set_same alpha x _ 0 (omega arith))
-            (get_or-set_same stencil x _ 0 (omega arith))
-            (get_or-set_same tags x _ 0 (omega arith));
+            same-pixel _ _ (red-back colours x _ _ _ h) (green-back colours x _ _ _ h) (blue-back colours x _ _ _ h)
+            (get_or-set_same alpha x _ 0 a)
+            (get_or-set_same stencil x _ 0 s)
+            (get_or-set_same tags x _ 0 t);
         other =
-            λ k n. same-pixel _ _ (elsewhere picture x _ _ _ (3 * k) (omega arith) (omega arith) (omega arith))
-            (elsewhere picture x _ _ _ (3 * k + 1) (omega arith) (omega arith) (omega arith))
-            (elsewhere picture x _ _ _ (3 * k + 2) (omega arith) (omega arith) (omega arith))
+            λ k n. same-pixel _ _ (elsewhere colours x _ _ _ (3 * k) (omega arith) (omega arith) (omega arith))
+            (elsewhere colours x _ _ _ (3 * k + 1) (omega arith) (omega arith) (omega arith))
+            (elsewhere colours x _ _ _ (3 * k + 2) (omega arith) (omega arith) (omega arith))
             (get_or-set_other alpha x k _ 0 n)
             (get_or-set_other stencil x k _ 0 n)
-            (get_or-set_other tags x k _ 0 n);
-      }
-
-  pub touched-fill :
-      (f : Fill) →
-      Touched x (filled f) (pixel_in picture tags alpha stencil) (pixel_in (three picture x f.red f.green f.blue) (set tags x f.tag) (set alpha x f.alpha) stencil)
-  unfolding pixel_in filled
-  touched-fill f =
-      record {
-        at =
-            same-pixel _ _ (red-back picture x _ _ _ (omega arith)) (green-back picture x _ _ _ (omega arith)) (blue-back picture x _ _ _ (omega arith))
-            (get_or-set_same alpha x _ 0 (omega arith))
-            refl
-            (get_or-set_same tags x _ 0 (omega arith));
-        other =
-            λ k n. same-pixel _ _ (elsewhere picture x _ _ _ (3 * k) (omega arith) (omega arith) (omega arith))
-            (elsewhere picture x _ _ _ (3 * k + 1) (omega arith) (omega arith) (omega arith))
-            (elsewhere picture x _ _ _ (3 * k + 2) (omega arith) (omega arith) (omega arith))
-            (get_or-set_other alpha x k _ 0 n)
-            refl
             (get_or-set_other tags x k _ 0 n);
       }

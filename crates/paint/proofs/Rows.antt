@@ -1,17 +1,17 @@
 -- The bytes of a row are those of its pixels.
 use mathlib.Core.List.{List, [], ◌∷◌, ◌++◌}
-use mathlib.Core.Path.{◌≡◌, refl, sym, ◌∙◌, ap}
+use mathlib.Core.Path.{◌≡◌, refl, ◌∙◌, ap}
 use Prim.Native.Nat.{ℕ, zero, suc, ◌+◌, ◌*◌, ◌<◌, ◌≤◌}
-use native.Mathlib.Nat.{not-suc-le-zero, le_of_suc-le-suc, le_refl}
+use native.Mathlib.Nat.{not-suc-le-zero, le_of_suc-le-suc}
 use native.Mathlib.Numerals.{add-one, add-two}
 use native.Mathlib.Omega.{arith}
 use lib.ListN.{length, get_or, take, replicate, length-append}
-use lib.Seq.{take_all}
 use Rattle.action.specs.declared.Action.{Action}
 use Rattle.pixel.specs.declared.Pixel.{Pixel}
 use Rattle.units.specs.Units.{pixel_at}
-use Rattle.paint.specs.Picture.{blank, colours_of, drawn_by, pixel_of, row_colours, row_tags, tags_of}
-use Rattle.paint.specs.Runs.{DrawnAll, pixel_in}
+use Rattle.paint.specs.Picture.{blank, colours_of, drawn_by, pixel_of, tags_of}
+use Rattle.paint.specs.Runs.{Blank, DrawnAll, pixel_in, pixels}
+use Rattle.paint.specs.declared.row.Row.{Row}
 use Rattle.paint.proofs.Points.{same-pixel}
 
 -- runs of zeros are blank pixels
@@ -20,9 +20,9 @@ zero-at zero i = refl
 zero-at (suc n) zero = refl
 zero-at (suc n) (suc i) = zero-at n i
 
-pub blank-at : (a b c d x : ℕ) → pixel_in (replicate a 0) (replicate b 0) (replicate c 0) (replicate d 0) x ≡ blank
+pub blank_at : (a b c d x : ℕ) → pixel_in (replicate a 0) (replicate b 0) (replicate c 0) (replicate d 0) x ≡ blank
 unfolding pixel_in
-blank-at a b c d x =
+blank_at a b c d x =
     same-pixel _ _ (zero-at a (3 * x)) (zero-at a (3 * x + 1)) (zero-at a (3 * x + 2)) (zero-at c x) (zero-at d x) (zero-at b x)
 
 take-one : (l : List ℕ) (m : ℕ) → m < length l → take (suc m) l ≡ take m l ++ (get_or l m 0 ∷ [])
@@ -39,24 +39,19 @@ take-three (a ∷ b ∷ []) m h = absurd (not-suc-le-zero (le_of_suc-le-suc (le_
 take-three (a ∷ b ∷ c ∷ l) zero h = refl
 take-three (a ∷ b ∷ c ∷ l) (suc m) h = ap (λ (t : List ℕ). a ∷ t) (take-three (b ∷ c ∷ l) m (le_of_suc-le-suc h))
 
-module _ (f : ℕ → Pixel) (width : ℕ) (picture tags alpha stencil : List ℕ) (at : (x : ℕ) → x < width → pixel_in picture tags alpha stencil x ≡ f x) where
-  colours-to : length picture ≡ 3 * width → (n : ℕ) → n ≤ width → take (3 * n) picture ≡ colours_of f n
+-- the bytes of a row's first pixels
+module _ (row : Row) where
+  pub colours-laid : (n : ℕ) → 3 * n ≤ length row.colours → take (3 * n) row.colours ≡ colours_of (pixels row) n
   unfolding colours_of pixel_in
-  colours-to long zero h = refl
-  colours-to long (suc n) h =
+  colours-laid zero h = refl
+  colours-laid (suc n) h =
       let e : 3 * suc n ≡ suc (suc (suc (3 * n))) = omega arith in
-      rw (e, take-three picture (3 * n) (omega arith), colours-to long n (omega arith), ← at n h, add-one, add-two)
+      rw (e, take-three row.colours (3 * n) (omega arith), colours-laid n (omega arith), add-one, add-two)
 
-  pub colours-are : length picture ≡ 3 * width → picture ≡ colours_of f width
-  colours-are long = sym (take_all (3 * width) picture (omega arith)) ∙ colours-to long width (le_refl width)
-
-  tags-to : length tags ≡ width → (n : ℕ) → n ≤ width → take n tags ≡ tags_of f n
+  pub tags-laid : (n : ℕ) → n ≤ length row.tags → take n row.tags ≡ tags_of (pixels row) n
   unfolding tags_of pixel_in
-  tags-to long zero h = refl
-  tags-to long (suc n) h = rw (take-one tags n (omega arith), tags-to long n (omega arith), ← at n h)
-
-  pub tags-are : length tags ≡ width → tags ≡ tags_of f width
-  tags-are long = sym (take_all width tags (omega arith)) ∙ tags-to long width (le_refl width)
+  tags-laid zero h = refl
+  tags-laid (suc n) h = rw (take-one row.tags n (omega arith), tags-laid n (omega arith))
 
 pub colours-long : (f : ℕ → Pixel) (width : ℕ) → length (colours_of f width) ≡ 3 * width
 unfolding colours_of
@@ -79,16 +74,8 @@ unfolding tags_of
 tags-same f g zero h = refl
 tags-same f g (suc width) h = rw (tags-same f g width (λ x l. h x (omega arith)), h width (omega arith))
 
--- a row drawn from zeros is the row
-pub drawn-from-zeros :
-    (memory : List ℕ) (actions : List Action) (width y a b n m : ℕ) (picture tags alpha stencil : List ℕ) →
-    DrawnAll memory actions width (pixel_at y) (pixel_in (replicate a 0) (replicate b 0) (replicate n 0) (replicate m 0)) (pixel_in picture tags alpha stencil) →
-    length picture ≡ 3 * width → length tags ≡ width →
-    (picture ≡ row_colours memory actions width y) × (tags ≡ row_tags memory actions width y)
-drawn-from-zeros memory actions width y a b n m picture tags alpha stencil drawn long-picture long-tags =
-    let at : (x : ℕ) → x < width → pixel_in picture tags alpha stencil x ≡ pixel_of memory actions y x =
-    λ x h. drawn x h ∙ ap (drawn_by memory actions (pixel_at x) (pixel_at y)) (blank-at a b n m x)
-    in (
-      colours-are (pixel_of memory actions y) width picture tags alpha stencil at long-picture,
-      tags-are (pixel_of memory actions y) width picture tags alpha stencil at long-tags,
-    )
+-- the pixels of a row drawn from zeros
+pub drawn-row :
+    (memory : List ℕ) (actions : List Action) (width y : ℕ) (start row : Row) → Blank start →
+    DrawnAll memory actions width (pixel_at y) (pixels start) (pixels row) → (x : ℕ) → x < width → pixels row x ≡ pixel_of memory actions y x
+drawn-row memory actions width y start row zeros drawn x h = drawn x h ∙ ap (drawn_by memory actions (pixel_at x) (pixel_at y)) (zeros x)

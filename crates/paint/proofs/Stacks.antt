@@ -26,7 +26,7 @@ stacked-same f g zero h = refl
 stacked-same f g (suc n) h = rw (stacked-same f g n (λ y l. h y (omega (arith, l))), h n (omega arith)) refl
 
 -- row y ends within
-row_within : (wide height y : ℕ) → y < height → y * wide + wide ≤ height * wide
+pub row_within : (wide height y : ℕ) → y < height → y * wide + wide ≤ height * wide
 row_within wide height y l = let m : suc y * wide ≤ height * wide = mul-le-mul_right wide l in rw suc-mul at m
 
 pub row-long : (run : List ℕ) (wide height : ℕ) → length run ≡ height * wide → Wide (row_in run wide) wide height
@@ -51,62 +51,59 @@ row-stacked row wide (suc height) each y l =
     (λ (m : y < height). row-earlier (stacked row height) (row height) wide height y n m ∙ row-stacked row wide height below y m)
     (eq-or-lt_of_le (omega arith))
 
--- `y` of `height` rows are done, the rest is as it was lent; the next row begins at `at`
-pub record Filled (row : ℕ → List ℕ) (wide height : ℕ) (old now : List ℕ) (y at : ℕ) : Type 0 where
+-- `y` of `height` rows are done, the rest is as it was lent
+pub record Filled (row : ℕ → List ℕ) (wide height : ℕ) (old now : List ℕ) (y : ℕ) : Type 0 where
   pub each : Wide row wide height
   pub most : y ≤ height
-  pub begins : at ≡ y * wide
   pub long : length now ≡ height * wide
-  pub is : now ≡ stacked row y ++ drop at old
+  pub is : now ≡ stacked row y ++ drop (y * wide) old
 
 module _ {row : ℕ → List ℕ} {wide height : ℕ} {old : List ℕ} where
-  pub filled_none : Wide row wide height → length old ≡ height * wide → Filled row wide height old old 0 0
+  pub filled_none : Wide row wide height → length old ≡ height * wide → Filled row wide height old old 0
   unfolding stacked
-  filled_none each e = record { each = each; most = zero-le; begins = sym (zero-mul wide); long = e; is = refl }
+  filled_none each e = record { each = each; most = zero-le; long = e; is = rw zero-mul refl }
 
-  module _ {now : List ℕ} {y at : ℕ} (f : Filled row wide height old now y at) where
-    done-long : length (stacked row y) ≡ at
-    done-long = stacked-long row wide y (λ i l. f.each i (omega arith)) ∙ sym f.begins
-
-    pub within : y < height → at + wide ≤ length now
-    within l = omega (arith, row_within wide height y l, f.begins, f.long)
+  module _ {now : List ℕ} {y : ℕ} (f : Filled row wide height old now y) where
+    done-long : length (stacked row y) ≡ y * wide
+    done-long = stacked-long row wide y (λ i l. f.each i (omega (arith, l, f.most)))
 
     -- a row that is written
-    pub filled_more : (ys : List ℕ) → y < height → ys ≡ row y → Filled row wide height old (take at now ++ (ys ++ drop (at + wide - at) (drop at now))) (y + 1) (at + wide)
+    pub filled_more :
+        (ys : List ℕ) → y < height → ys ≡ row y →
+        Filled row wide height old (take (y * wide) now ++ (ys ++ drop (y * wide + wide - y * wide) (drop (y * wide) now))) (y + 1)
     unfolding stacked
     filled_more ys l e =
-        let ht : take at now ≡ stacked row y = ap (take at) f.is ∙ take_at (stacked row y) (drop at old) at done-long in
-        let hd : drop at now ≡ drop at old = ap (drop at) f.is ∙ drop_at (stacked row y) (drop at old) at done-long in
+        let at = y * wide in
+        let ht : take (y * wide) now ≡ stacked row y = ap (take (y * wide)) f.is ∙ take_at (stacked row y) (drop (y * wide) old) (y * wide) done-long in
+        let hd : drop (y * wide) now ≡ drop (y * wide) old = ap (drop (y * wide)) f.is ∙ drop_at (stacked row y) (drop (y * wide) old) (y * wide) done-long in
         record {
           each = f.each;
           most = omega arith;
-          begins = rw (add-one, suc-mul, f.begins);
-          long = simp (length-append, length-take, length-drop) (omega (arith, within l, f.long, ap length e ∙ f.each y l));
-          is = rw (ht, hd, e, add-sub_cancel_left, drop-drop, add-one, append_assoc);
+          long = simp (length-append, length-take, length-drop) (omega (arith, row_within wide height y l, f.long, ap length e ∙ f.each y l));
+          is = rw (ht, hd, e, add-sub_cancel_left, drop-drop, add-one, append_assoc, suc-mul);
         }
 
     -- a row that stays as it was lent
-    pub filled-skip : y < height → row y ≡ row_in old wide y → Filled row wide height old now (y + 1) (at + wide)
+    pub filled-skip : y < height → row y ≡ row_in old wide y → Filled row wide height old now (y + 1)
     unfolding stacked
     filled-skip l e =
         record {
           each = f.each;
           most = omega arith;
-          begins = rw (add-one, suc-mul, f.begins);
           long = f.long;
-          is = f.is ∙ rw (add-one, append_assoc, e, ← f.begins, ← drop-drop wide at old, take-append-drop);
+          is = f.is ∙ rw (add-one, append_assoc, e, suc-mul, ← drop-drop wide (y * wide) old, take-append-drop);
         }
 
     pub filled-all : height ≤ y → now ≡ stacked row height
     filled-all l =
         let s : y ≡ height = omega (arith, f.most) in
-        let n : length old ≤ at = omega (arith, simp (length-append, length-drop) at (ap length f.is), done-long, f.begins, f.long, ap (λ (n : ℕ). n * wide) s) in
+        let n : length old ≤ y * wide = omega (arith, simp (length-append, length-drop) at (ap length f.is), done-long, f.long, ap (λ (n : ℕ). n * wide) s) in
         f.is ∙ rw (drop_of_length-le old n, append-nil, s)
 
 -- a run is its rows one after another
 pub rows-stacked : (run : List ℕ) (wide height : ℕ) → length run ≡ height * wide → run ≡ stacked (row_in run wide) height
 rows-stacked run wide height e = filled-all (to height (le_refl height)) (le_refl height)
   where
-    to : (y : ℕ) → y ≤ height → Filled (row_in run wide) wide height run run y (y * wide)
-    to zero l = rw zero-mul (filled_none (row-long run wide height e) e)
-    to (suc y) l = rw suc-mul (rw add-one at (filled-skip (to y (omega arith)) l refl))
+    to : (y : ℕ) → y ≤ height → Filled (row_in run wide) wide height run run y
+    to zero l = filled_none (row-long run wide height e) e
+    to (suc y) l = rw add-one at (filled-skip (to y (omega arith)) l refl)

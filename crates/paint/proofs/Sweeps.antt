@@ -1,5 +1,5 @@
 -- A row swept column by column.
-use mathlib.Core.Bool.{Bool, true, false, cond, ◌&&◌, false≢true}
+use mathlib.Core.Bool.{Bool, true, false, cond, ◌&&◌}
 use mathlib.Core.Logic.{◌⊎◌, inl, inr, ⊎_elim}
 use mathlib.Core.List.{List}
 use mathlib.Core.Path.{◌≡◌, refl, sym, ◌∙◌, ap}
@@ -7,24 +7,17 @@ use Prim.Native.Nat.{ℕ, ◌+◌, ◌<◌, ◌≤◌}
 use native.Mathlib.Nat.{le_refl, eq-or-lt_of_le}
 use native.Mathlib.Omega.{arith}
 use lib.Dec.{leb, ltb}
-use lib.ListN.{length}
 use borrow.Author.Tests.{lt-ltb, le-ltb, ltb-true, ltb-false, le-leb, lt-leb}
 use Rattle.action.specs.declared.Action.{Action}
-use Rattle.action.specs.declared.Drawing.{Drawing}
-use Rattle.action.specs.declared.ink.Masks.{Masks}
 use Rattle.pixel.specs.declared.Pixel.{Pixel}
-use Rattle.pixel.specs.declared.plain.Fill.{Fill}
-use Rattle.pixel.specs.declared.plain.Plain.{Plain}
-use Rattle.pixel.specs.declared.plain.Plain.TheVariants as p
-use Rattle.pixel.specs.Plain.{filled}
 use Rattle.shape.specs.declared.Chord.{Chord}
 use Rattle.shape.specs.Cover.{between, outline_of}
-use Rattle.shape.specs.OneRow.{Reached, Sampled, holds_in}
+use Rattle.shape.specs.OneRow.{Reached, holds_in}
 use Rattle.units.specs.declared.Pixels.{Pixels}
 use Rattle.units.proofs.Meaning.{pixels-at}
 use Rattle.units.specs.Units.{PixelOf, pixel_at, count_before}
 use Rattle.paint.specs.Picture.{drawn_at}
-use Rattle.paint.specs.Runs.{Lent, PlainDrawing, PlainOver, Touched, Swept, Drawn, change, held, pixel_in}
+use Rattle.paint.specs.Runs.{Touched, Swept, Drawn, change, held}
 
 pub swept_none : (from : ℕ) (step : ℕ → Pixel → Pixel) (old : ℕ → Pixel) → Swept from from step old old
 swept_none from step old = record { inside = λ k h l. absurd (none k h l); outside = λ k h. refl }
@@ -67,133 +60,41 @@ swept_all from to x step old now high end s =
         (λ (e : x ≡ from). ⊎_elim (λ (f : k < from). s.outside k (inl f)) (λ (f : from ≤ k). s.outside k (inr (omega arith))) (below_or_not k from))
         end
 
--- the runs keep their lengths
-pub record SameLong (picture₀ tags₀ alpha₀ stencil₀ picture tags alpha stencil : List ℕ) : Type 0 where
-  pub pictures : length picture ≡ length picture₀
-  pub tagged : length tags ≡ length tags₀
-  pub alphas : length alpha ≡ length alpha₀
-  pub stencils : length stencil ≡ length stencil₀
-
-pub same_none : {picture tags alpha stencil : List ℕ} → SameLong picture tags alpha stencil picture tags alpha stencil
-same_none = record { pictures = refl; tagged = refl; alphas = refl; stencils = refl }
-
-module _ {picture₀ tags₀ alpha₀ stencil₀ picture tags alpha stencil : List ℕ} (s : SameLong picture₀ tags₀ alpha₀ stencil₀ picture tags alpha stencil) where
-  pub same_more :
-      (picture' tags' alpha' stencil' : List ℕ) →
-      length picture' ≡ length picture → length tags' ≡ length tags → length alpha' ≡ length alpha → length stencil' ≡ length stencil →
-      SameLong picture₀ tags₀ alpha₀ stencil₀ picture' tags' alpha' stencil'
-  same_more picture' tags' alpha' stencil' p t a c =
-      record { pictures = p ∙ s.pictures; tagged = t ∙ s.tagged; alphas = a ∙ s.alphas; stencils = c ∙ s.stencils }
-
-  pub still-there : (width : ℕ) → Lent width picture₀ tags₀ alpha₀ stencil₀ → Lent width picture tags alpha stencil
-  still-there width l =
-      (s.pictures ∙ l.0, (s.tagged ∙ l.1.0, (s.alphas ∙ l.1.1.0, (s.stencils ∙ l.1.1.1.0, l.1.1.1.1))))
-
--- what holds at each turn of a loop over columns
-pub record Sweeps (from to : ℕ) (step : ℕ → Pixel → Pixel) (picture₀ tags₀ alpha₀ stencil₀ picture tags alpha stencil : List ℕ) (x : ℕ) : Type 0 where
-  pub low : from ≤ x
-  pub end : (x ≤ to) ⊎ (x ≡ from)
-  pub long : SameLong picture₀ tags₀ alpha₀ stencil₀ picture tags alpha stencil
-  pub done : Swept from x step (pixel_in picture₀ tags₀ alpha₀ stencil₀) (pixel_in picture tags alpha stencil)
-
-module _ (from to : ℕ) (step : ℕ → Pixel → Pixel) (picture₀ tags₀ alpha₀ stencil₀ : List ℕ) where
-  pub sweeps-none : Sweeps from to step picture₀ tags₀ alpha₀ stencil₀ picture₀ tags₀ alpha₀ stencil₀ from
-  sweeps-none =
-      record {
-        low = le_refl from;
-        end = inr refl;
-        long = same_none;
-        done = swept_none from step (pixel_in picture₀ tags₀ alpha₀ stencil₀);
-      }
-
-  module _ {picture tags alpha stencil : List ℕ} {x : ℕ} (s : Sweeps from to step picture₀ tags₀ alpha₀ stencil₀ picture tags alpha stencil x) where
-    pub sweeps-more :
-        (picture' tags' alpha' stencil' : List ℕ) → x < to →
-        length picture' ≡ length picture → length tags' ≡ length tags → length alpha' ≡ length alpha → length stencil' ≡ length stencil →
-        Touched x (step x) (pixel_in picture tags alpha stencil) (pixel_in picture' tags' alpha' stencil') →
-        Sweeps from to step picture₀ tags₀ alpha₀ stencil₀ picture' tags' alpha' stencil' (x + 1)
-    sweeps-more picture' tags' alpha' stencil' h p t a c touched =
-        record {
-          low = omega (arith, s.low);
-          end = inl (omega arith);
-          long = same_more s.long picture' tags' alpha' stencil' p t a c;
-          done = swept-more from x step _ _ _ s.low s.done touched;
-        }
-
-    pub sweeps-all : to ≤ x → Swept from to step (pixel_in picture₀ tags₀ alpha₀ stencil₀) (pixel_in picture tags alpha stencil)
-    sweeps-all h = swept_all from to x step _ _ h s.end s.done
-
--- another step that does the same
+-- another step that does the same, and one that changes nothing
 pub swept_as :
-    (from to : ℕ) (step step' : ℕ → Pixel → Pixel) (old now : ℕ → Pixel) →
-    ((k : ℕ) → k < to → (p : Pixel) → step k p ≡ step' k p) → Swept from to step old now → Swept from to step' old now
-swept_as from to step step' old now same s = record { inside = λ k h l. s.inside k h l ∙ same k l (old k); outside = s.outside }
-
--- a column was asked about: it is held and was touched, or it is not and was left
-module _ (chord : Chord) (step : ℕ → Pixel → Pixel) {x : ℕ} {p : Pixels} {b : Bool} (old : ℕ → Pixel) (at : PixelOf x p) (asked : b ≡ holds_in chord p) where
-  pub touched-held :
-      (step' : Pixel → Pixel) (now : ℕ → Pixel) → b ≡ true → step' (old x) ≡ step x (old x) → Touched x step' old now → Touched x (held chord step x) old now
-  unfolding held
-  touched-held step' now t same touched =
-      let e : holds_in chord (pixel_at x) ≡ true = ap (holds_in chord) (sym (pixels-at at)) ∙ sym asked ∙ t in
-      record { at = touched.at ∙ same ∙ rw e; other = touched.other }
-
-  pub touched-left : b ≡ false → Touched x (held chord step x) old old
-  unfolding held
-  touched-left t =
-      let e : holds_in chord (pixel_at x) ≡ false = ap (holds_in chord) (sym (pixels-at at)) ∙ sym asked ∙ t in
-      record { at = rw e; other = λ k n. refl }
-
-pub held_same :
-    (chord : Chord) (step step' : ℕ → Pixel → Pixel) (x : ℕ) (p : Pixel) → step x p ≡ step' x p → held chord step x p ≡ held chord step' x p
+    (chord : Chord) (from to : ℕ) {step step' : ℕ → Pixel → Pixel} {old now : ℕ → Pixel} → ((k : ℕ) (p : Pixel) → step k p ≡ step' k p) →
+    Swept from to (held chord step) old now → Swept from to (held chord step') old now
 unfolding held
-held_same chord step step' x p e = ap (λ (q : Pixel). cond (holds_in chord (pixel_at x)) q p) e
+swept_as chord from to {step} {step'} {old} {now} same s =
+    record {
+      inside =
+          λ k h l. s.inside k h l ∙ ap (λ (q : Pixel). cond (holds_in chord (pixel_at k)) q (old k)) (same k (old k));
+      outside = s.outside;
+    }
 
--- a plain way over a chord
-abbrev pub is_wipe : Plain → Bool
-is_wipe p.Nothing = false
-is_wipe (p.Fill fill) = false
-is_wipe (p.Wipe pixel) = true
-is_wipe p.Each = false
+either_way : (b : Bool) (p : Pixel) → cond b p p ≡ p
+either_way true p = refl
+either_way false p = refl
 
-pub over_any : (chord : Chord) (masks : Masks) (drawing : Drawing) (plain : Plain) → is_wipe plain ≡ false → PlainDrawing masks drawing plain → PlainOver chord masks drawing plain
-over_any chord masks drawing plain other plainly =
-    record { plainly = plainly; flat = λ with e. absurd (false≢true (sym other ∙ ap is_wipe e)) }
+pub swept-still : (chord : Chord) (from to : ℕ) (old : ℕ → Pixel) → Swept from to (held chord (λ _ p. p)) old old
+unfolding held
+swept-still chord from to old = record { inside = λ k h l. sym (either_way (holds_in chord (pixel_at k)) (old k)); outside = λ k h. refl }
 
-pub over-flat :
-    (chord : Chord) (masks : Masks) (drawing : Drawing) (plain : Plain) → PlainDrawing masks drawing plain →
-    ((p : Pixels) → Sampled p → holds_in chord p ≡ true) → PlainOver chord masks drawing plain
-over-flat chord masks drawing plain plainly all = record { plainly = plainly; flat = λ with e x h. all (pixel_at x) (omega arith) }
-
--- the short ways: what they make of a column is what the drawing makes of it
-module _ (memory : List ℕ) (masks : Masks) (drawing : Drawing) (q : Pixels) (chord : Chord) (from to : ℕ) (old now : ℕ → Pixel) where
-  abbrev drawn : ℕ → Pixel → Pixel
-  drawn = held chord (change memory masks drawing q)
-
-  either_way : (b : Bool) (p : Pixel) → cond b p p ≡ p
-  either_way true p = refl
-  either_way false p = refl
-
-  pub swept-nothing : PlainDrawing masks drawing p.Nothing → now ≡ old → Swept from to drawn old now
+-- a column that is held was touched, and one that is not was left
+module _ (chord : Chord) (step : ℕ → Pixel → Pixel) {x : ℕ} (old : ℕ → Pixel) where
+  pub touched-held :
+      {after : Pixel} {now : ℕ → Pixel} → holds_in chord (pixel_at x) ≡ true → after ≡ step x (old x) → Touched x (λ _. after) old now →
+      Touched x (held chord step x) old now
   unfolding held
-  swept-nothing plain e =
-      rw e
-      (record {
-        inside = λ k h l. sym (rw (plain memory (pixel_at k) q (old k)) (either_way (holds_in chord (pixel_at k)) (old k)));
-        outside = λ k h. refl;
-      })
+  touched-held e same touched = record { at = touched.at ∙ same ∙ rw e; other = touched.other }
 
-  pub swept-fill : (fill : Fill) → PlainDrawing masks drawing (p.Fill fill) → Swept from to (held chord (λ _. filled fill)) old now → Swept from to drawn old now
-  swept-fill fill plain =
-      swept_as from to _ drawn old now
-      (λ k h p. held_same chord (λ _. filled fill) (change memory masks drawing q) k p (sym (plain memory (pixel_at k) q p)))
-
-  pub swept-wipe :
-      (with : Pixel) → PlainDrawing masks drawing (p.Wipe with) → ((k : ℕ) → k < to → holds_in chord (pixel_at k) ≡ true) →
-      Swept from to (λ _ _. with) old now → Swept from to drawn old now
+  pub touched-left : holds_in chord (pixel_at x) ≡ false → Touched x (held chord step x) old old
   unfolding held
-  swept-wipe with plain all =
-      swept_as from to _ drawn old now (λ k h p. rw (all k h) (sym (plain memory (pixel_at k) q p)))
+  touched-left e = record { at = rw e; other = λ k n. refl }
+
+-- what was asked about a column
+pub asked-of : (chord : Chord) {x : ℕ} {p : Pixels} {b v : Bool} → PixelOf x p → b ≡ holds_in chord p → b ≡ v → holds_in chord (pixel_at x) ≡ v
+asked-of chord at asked e = ap (holds_in chord) (sym (pixels-at at)) ∙ sym asked ∙ e
 
 and-false : (b : Bool) → (b && false) ≡ false
 and-false true = refl
@@ -229,8 +130,8 @@ module _ (memory : List ℕ) (action : Action) (q : Pixels) (width : ℕ) (chord
     unfolding drawn_at
     drawn-out x h e p = rw (r.exact x h, e)
 
-    pub swept-drawn : Swept from to steps old now → Drawn memory action width q old now
-    swept-drawn s x h = go (ltb x from) (ltb x to) refl refl
+    swept-steps : Swept from to steps old now → Drawn memory action width q old now
+    swept-steps s x h = go (ltb x from) (ltb x to) refl refl
       where
         out : (x < from) ⊎ (to ≤ x) → now x ≡ drawn_at memory action (pixel_at x) q (old x)
         out o = s.outside x o ∙ drawn-out x h (column-out x o h) (old x)
@@ -242,3 +143,9 @@ module _ (memory : List ℕ) (action : Action) (q : Pixels) (width : ℕ) (chord
             let l : from ≤ x = ltb-false x from e in
             let m : x < to = ltb-true x to f in
             s.inside x l m ∙ drawn-in x h (column-in x l m h) (old x)
+
+    -- a step that does at each column what the drawing does
+    pub swept-drawn :
+        {step : ℕ → Pixel → Pixel} → Swept from to (held chord step) old now →
+        ((k : ℕ) (p : Pixel) → step k p ≡ change memory action.masks action.drawing q k p) → Drawn memory action width q old now
+    swept-drawn s same = swept-steps (swept_as chord from to same s)

@@ -1,68 +1,57 @@
 // The drawing actions of a list, kept as numbers: a list is run once, and a row reads the actions that can reach it.
-ghost use Rattle.std.specs.Prelude.{◌<◌, ◌+◌, ◌*◌};
-ghost use Rattle.engine.specs.Run.{WithinLimits};
-ghost use Rattle.paint.specs.Actions.{Rooms, Keeps, Gathers, most_kept};
+ghost use Rattle.std.specs.Prelude.{◌≡◌, ◌<◌};
+ghost use Rattle.engine.specs.Running.{actions_in};
+ghost use Rattle.paint.specs.Actions.{Gathers, Keeps, most_kept};
 
 use action::Action;
-use engine::{Engine, Find};
-use shape::reach;
+use engine::Screen;
+use shape::{Rows, reach};
 
 pub const MOST: usize = 1024;
 
-// How many actions are kept, and whether these are all.
-#[derive(Clone, Copy)]
-pub struct Gathered {
+// The first `count` actions, each with the rows that it can reach, and whether these are all of the list.
+#[derive(Drop)]
+pub struct Kept {
+    pub numbers: [u32; store::NUMBERS * MOST],
+    pub places: [u64; store::PLACES * MOST],
+    pub bands: [Rows<u32>; MOST],
     pub count: usize,
     pub all: bool,
 }
 
-fn keep(action: Action, k: usize, numbers: &mut [u32], places: &mut [u64], bands: &mut [u32])
-    requires { (k < most_kept) × Rooms numbers.old places.old bands.old }
-    ensures { Keeps action k numbers.old places.old bands.old numbers.new places.new bands.new }
-{
-    let rows = reach::rows_of(action);
-    bands[2 * k] = rows.top;
-    bands[2 * k + 1] = rows.bottom;
-    store::put(action, k, numbers, places);
-}
-
-// Runs a list from its start and keeps its actions, as many as there is room for.
-pub fn gather(
-    list: &[u8],
-    memory: u32,
-    limit: u32,
-    numbers: &mut [u32],
-    places: &mut [u64],
-    bands: &mut [u32],
-) -> Gathered
-    requires { WithinLimits list.now memory × Rooms numbers.old places.old bands.old }
-    ensures { Gathers list.now memory limit result numbers.new places.new bands.new }
-{
-    let mut handles = engine::Handles::unset();
-    let mut engine = Engine::start();
-    let mut left = limit;
-    let mut count: usize = 0;
-    while count < MOST {
-        let advanced = engine::advance(engine, &mut handles, list, memory, left, true);
-        let find = advanced.find;
-        let next = advanced.engine;
-        left = advanced.left;
-        engine = next;
-        match find {
-            Find::Drew(action) => {
-                keep(action, count, numbers, places, bands);
-            }
-            Find::Over(_) => {
-                return Gathered {
-                    count: count,
-                    all: true,
-                };
-            }
+impl Kept {
+    pub fn none() -> Kept {
+        Kept {
+            numbers: [0; store::NUMBERS * MOST],
+            places: [0; store::PLACES * MOST],
+            bands: [Rows { top: 0, bottom: 0 }; MOST],
+            count: 0,
+            all: false,
         }
-        count += 1;
     }
-    Gathered {
-        count: count,
-        all: false,
+
+    fn keep(&mut self, k: usize, action: Action)
+        requires { (k < most_kept) × (self.old.count ≡ k) }
+        ensures { Keeps action self.old self.new }
+    {
+        self.bands[k] = reach::rows_of(action);
+        store::put(action, k, &mut self.numbers, &mut self.places);
+        self.count = k + 1;
+    }
+
+    // Runs the screen's list from its start and keeps its actions, as many as there is room for.
+    pub fn gather(&mut self, screen: &Screen)
+        ensures { Gathers (actions_in screen.now) self.new }
+    {
+        let mut run = screen.run();
+        self.count = 0;
+        self.all = false;
+        for k in 0..MOST {
+            let Some(action) = run.next() else {
+                self.all = true;
+                return;
+            };
+            self.keep(k, action);
+        }
     }
 }

@@ -1,257 +1,141 @@
-// Rows of the picture that a list draws. The list is run once; then each row is drawn by itself, from 0, out of the actions
-// that reach it.
+// Rows of the picture that a list draws. The list is run once; then each row is drawn by itself, from 0, out of the
+// actions that reach it.
 #![tactic(auto)]
 
-ghost use Rattle.std.specs.Prelude.{◌≡◌, ◌<◌, ◌≤◌, ◌+◌, ◌*◌, length};
-ghost use Rattle.engine.specs.Run.{WithinLimits, actions_of};
+ghost use Rattle.std.specs.Prelude.{Bool, ℕ, ◌≡◌, ◌<◌, ◌≤◌, ◌+◌, ◌*◌, length};
 ghost use Rattle.engine.specs.Running.{actions_in};
 ghost use Rattle.units.specs.Units.{pixel_at, tallest, widest};
-ghost use Rattle.store.specs.Store.{kept_at};
-ghost use Rattle.paint.specs.Actions.{AllBands, BandAt, Gathers, Rooms, kept_up_to, most_kept};
+ghost use Rattle.paint.specs.Actions.{kept_up_to};
 ghost use Rattle.paint.specs.Picture.{colours_from, tags_from, patched, row_colours, row_tags};
-ghost use Rattle.paint.specs.Runs.{Lent, HoldRows, Drawn, DrawnAll, pixel_in};
+ghost use Rattle.paint.specs.Runs.{DrawnAll, HoldRows, Ready, Tells, pixels, wanted_rows};
 
 mod kept;
-mod point;
 mod row;
 
-use engine::{Engine, Find, Screen};
-use kept::Gathered;
+use engine::Screen;
+use kept::Kept;
+use row::Row;
 use units::Pixels;
 
-// Draws the k-th kept action into row y, or leaves it at once where its band tells that it does not reach the row.
-fn draw_kept(
-    k: usize,
-    numbers: &[u32],
-    places: &[u64],
-    bands: &[u32],
-    y: u32,
-    memory: &[u8],
+// A list that is painted on frames of one width, and its actions as far as they are kept.
+#[derive(Drop)]
+struct Painter<'a> {
+    screen: &'a Screen<'a>,
     width: u32,
-    picture: &mut [u8],
-    tags: &mut [u8],
-    alpha: &mut [u8],
-    stencil: &mut [u8],
-)
-    requires y_lt_tallest { (y < tallest) × Lent width picture.old tags.old alpha.old stencil.old }
-    requires k_lt_most_kept { (k < most_kept) × (Rooms numbers.now places.now bands.now × BandAt numbers.now places.now bands.now k) }
-    ensures { Drawn memory.now (kept_at numbers.now places.now k) width (pixel_at y)
-        (pixel_in picture.old tags.old alpha.old stencil.old)
-        (pixel_in picture.new tags.new alpha.new stencil.new) }
-{
-    let top = bands[2 * k];
-    let bottom = bands[2 * k + 1];
-    if (top <= y) & (y < bottom) {
-        let action = store::get(k, numbers, places);
-        row::draw(
-            action,
-            Pixels::of(y),
-            memory,
-            width,
-            picture,
-            tags,
-            alpha,
-            stencil,
-        );
+    kept: &'a Kept,
+    ghost ready: { Ready (actions_in screen.now) width kept.now },
+}
+
+impl<'a> Painter<'a> {
+    // Draws the kept actions into row y, each that can reach it.
+    fn draw_kept(&self, y: u32, row: &mut Row)
+        requires { y < tallest }
+        ensures { DrawnAll
+            self.now.screen.now.memory.now
+            (kept_up_to self.now.kept.now.numbers self.now.kept.now.places self.now.kept.now.count)
+            self.now.width
+            (pixel_at y)
+            (pixels row.old)
+            (pixels row.new) }
+    {
+        let kept = self.kept;
+        for k in 0..kept.count {
+            let band = kept.bands[k];
+            if (band.top <= y) & (y < band.bottom) {
+                let action = store::get(k, &kept.numbers, &kept.places);
+                row.draw(action, Pixels::of(y), self.screen.memory, self.width);
+            }
+        }
+    }
+
+    // Runs the list anew and draws each of its actions into row y.
+    fn draw_list(&self, y: u32, row: &mut Row)
+        requires { y < tallest }
+        ensures { DrawnAll
+            self.now.screen.now.memory.now
+            (actions_in self.now.screen.now)
+            self.now.width
+            (pixel_at y)
+            (pixels row.old)
+            (pixels row.new) }
+    {
+        for action in self.screen.run() {
+            row.draw(action, Pixels::of(y), self.screen.memory, self.width);
+        }
+    }
+
+    // Row y, from 0: nothing of what was lent is left.
+    fn paint_row(&self, y: u32, picture: &mut [u8], tags: &mut [u8])
+        requires { (y < tallest)
+            × ((length picture.old ≡ 3 * self.now.width) × (length tags.old ≡ self.now.width)) }
+        ensures picture_after { picture.new ≡ row_colours
+            self.now.screen.now.memory.now
+            (actions_in self.now.screen.now)
+            self.now.width
+            y }
+        ensures tags_after { tags.new ≡ row_tags
+            self.now.screen.now.memory.now
+            (actions_in self.now.screen.now)
+            self.now.width
+            y }
+    {
+        let mut row = Row::blank();
+        if self.kept.all {
+            self.draw_kept(y, &mut row);
+        } else {
+            self.draw_list(y, &mut row);
+        }
+        row.lay(picture, tags);
     }
 }
 
-fn draw_all_kept(
+// Paints of so many rows, from `first` on, those that are wanted, each into its part of the runs, and leaves every other
+// row.
+fn paint_wanted<W: Fn(usize) -> bool>(
+    screen: &Screen,
+    width: u32,
+    first: u32,
     count: usize,
-    numbers: &[u32],
-    places: &[u64],
-    bands: &[u32],
-    y: u32,
-    memory: &[u8],
-    width: u32,
+    is_wanted: W,
     picture: &mut [u8],
     tags: &mut [u8],
-    alpha: &mut [u8],
-    stencil: &mut [u8],
 )
-    requires y_lt_tallest { (y < tallest) × Lent width picture.old tags.old alpha.old stencil.old }
-    requires count_le_most_kept { (count ≤ most_kept) × (Rooms numbers.now places.now bands.now × AllBands numbers.now places.now bands.now count) }
-    ensures { DrawnAll memory.now (kept_up_to numbers.now places.now count) width (pixel_at y)
-        (pixel_in picture.old tags.old alpha.old stencil.old)
-        (pixel_in picture.new tags.new alpha.new stencil.new) }
+    requires count_bound { (first + count ≤ tallest) × HoldRows width count picture.old tags.old }
+    requires callable { (y : ℕ) → y < count → W.pre is_wanted y }
+    ensures { (wanted : ℕ → Bool) → Tells (W.post is_wanted) count wanted →
+        (picture.new ≡ wanted_rows wanted
+        (λ y. row_colours screen.now.memory.now (actions_in screen.now) width (first + y))
+        (3 * width)
+        count
+        picture.old)
+        × (tags.new ≡ wanted_rows wanted
+        (λ y. row_tags screen.now.memory.now (actions_in screen.now) width (first + y))
+        width
+        count
+        tags.old) }
 {
-    let mut k: usize = 0;
-    while k < count {
-        draw_kept(
-            k, numbers, places, bands, y, memory, width, picture, tags, alpha, stencil,
-        );
-        k += 1;
-    }
-}
-
-// Runs the list anew and draws each of its actions into row y.
-fn draw_list(
-    list: &[u8],
-    limit: u32,
-    y: u32,
-    memory: &[u8],
-    width: u32,
-    picture: &mut [u8],
-    tags: &mut [u8],
-    alpha: &mut [u8],
-    stencil: &mut [u8],
-)
-    requires within_limits { WithinLimits list.now (length memory.now) }
-    requires y_lt_tallest { (y < tallest) × Lent width picture.old tags.old alpha.old stencil.old }
-    ensures { DrawnAll memory.now (actions_of list.now (length memory.now) limit) width (pixel_at y)
-        (pixel_in picture.old tags.old alpha.old stencil.old)
-        (pixel_in picture.new tags.new alpha.new stencil.new) }
-{
-    let mut handles = engine::Handles::unset();
-    let mut engine = Engine::start();
-    let mut left = limit;
-    while 0 < left {
-        let advanced = engine::advance(engine, &mut handles, list, memory.len() as u32, left, true);
-        let find = advanced.find;
-        let next = advanced.engine;
-        left = advanced.left;
-        engine = next;
-        match find {
-            Find::Drew(action) => {
-                row::draw(
-                    action,
-                    Pixels::of(y),
-                    memory,
-                    width,
-                    picture,
-                    tags,
-                    alpha,
-                    stencil,
-                );
-            }
-            Find::Over(_) => {
-                return;
-            }
+    let mut kept = Kept::none();
+    kept.gather(screen);
+    let painter = Painter {
+        screen,
+        width,
+        kept: &kept,
+    };
+    let wide = width as usize;
+    for y in 0..count {
+        if is_wanted(y) {
+            let a = y * (3 * wide);
+            let b = y * wide;
+            painter.paint_row(
+                first + y as u32,
+                &mut picture[a..a + 3 * wide],
+                &mut tags[b..b + wide],
+            );
         }
     }
 }
 
-// Draws all actions of the list into row y: those that are kept, if they are all.
-fn draw_all(
-    gathered: Gathered,
-    numbers: &[u32],
-    places: &[u64],
-    bands: &[u32],
-    list: &[u8],
-    limit: u32,
-    y: u32,
-    memory: &[u8],
-    width: u32,
-    picture: &mut [u8],
-    tags: &mut [u8],
-    alpha: &mut [u8],
-    stencil: &mut [u8],
-)
-    requires within_limits { WithinLimits list.now (length memory.now) }
-    requires gathers { Gathers list.now (length memory.now) limit gathered numbers.now places.now bands.now }
-    requires y_lt_tallest { (y < tallest) × Lent width picture.old tags.old alpha.old stencil.old }
-    ensures { DrawnAll memory.now (actions_of list.now (length memory.now) limit) width (pixel_at y)
-        (pixel_in picture.old tags.old alpha.old stencil.old)
-        (pixel_in picture.new tags.new alpha.new stencil.new) }
-{
-    let count = gathered.count;
-    if gathered.all {
-        draw_all_kept(
-            count, numbers, places, bands, y, memory, width, picture, tags, alpha, stencil,
-        );
-    } else {
-        draw_list(list, limit, y, memory, width, picture, tags, alpha, stencil);
-    }
-}
-
-// Row y, from 0: nothing of what was lent is left.
-fn paint_row(
-    gathered: Gathered,
-    numbers: &[u32],
-    places: &[u64],
-    bands: &[u32],
-    list: &[u8],
-    limit: u32,
-    y: u32,
-    memory: &[u8],
-    width: u32,
-    picture: &mut [u8],
-    tags: &mut [u8],
-)
-    requires within_limits { WithinLimits list.now (length memory.now) }
-    requires gathers { Gathers list.now (length memory.now) limit gathered numbers.now places.now bands.now }
-    requires y_lt_tallest { (y < tallest) × ((width ≤ widest) × ((length picture.old ≡ 3 * width) × (length tags.old ≡ width))) }
-    ensures picture_after { picture.new ≡ row_colours memory.now (actions_of list.now (length memory.now) limit) width y }
-    ensures tags_after { tags.new ≡ row_tags memory.now (actions_of list.now (length memory.now) limit) width y }
-{
-    let mut alpha = [0u8; 800];
-    let mut stencil = [0u8; 800];
-    runs::flood(picture, 0);
-    runs::flood(tags, 0);
-    draw_all(
-        gathered,
-        numbers,
-        places,
-        bands,
-        list,
-        limit,
-        y,
-        memory,
-        width,
-        picture,
-        tags,
-        &mut alpha,
-        &mut stencil,
-    );
-}
-
-fn paint_each_row(
-    gathered: Gathered,
-    numbers: &[u32],
-    places: &[u64],
-    bands: &[u32],
-    list: &[u8],
-    limit: u32,
-    memory: &[u8],
-    width: u32,
-    first: u32,
-    count: u32,
-    picture: &mut [u8],
-    tags: &mut [u8],
-)
-    requires within_limits { WithinLimits list.now (length memory.now) }
-    requires gathers { Gathers list.now (length memory.now) limit gathered numbers.now places.now bands.now }
-    requires count_bound { (first + count ≤ tallest) × HoldRows width count picture.old tags.old }
-    ensures picture_after { picture.new ≡ colours_from memory.now (actions_of list.now (length memory.now) limit) width first count }
-    ensures tags_after { tags.new ≡ tags_from memory.now (actions_of list.now (length memory.now) limit) width first count }
-{
-    let wide = width as usize;
-    let mut y: u32 = 0;
-    let mut a: usize = 0;
-    let mut b: usize = 0;
-    while y < count {
-        let e = a + 3 * wide;
-        let f = b + wide;
-        paint_row(
-            gathered,
-            numbers,
-            places,
-            bands,
-            list,
-            limit,
-            first + y,
-            memory,
-            width,
-            &mut picture[a..e],
-            &mut tags[b..f],
-        );
-        a = e;
-        b = f;
-        y += 1;
-    }
-}
-
-// Paints so many rows of the frame, from `first` on, each straight into its part of the runs.
+// Paints so many rows of the frame, from `first` on, each into its part of the runs.
 pub fn paint_rows(
     screen: &Screen,
     width: u32,
@@ -264,84 +148,19 @@ pub fn paint_rows(
     ensures picture_after { picture.new ≡ colours_from screen.now.memory.now (actions_in screen.now) width first count }
     ensures tags_after { tags.new ≡ tags_from screen.now.memory.now (actions_in screen.now) width first count }
 {
-    let mut numbers = [0; store::NUMBERS * kept::MOST];
-    let mut places = [0; store::PLACES * kept::MOST];
-    let mut bands = [0; 2 * kept::MOST];
-    let gathered = kept::gather(
-        screen.list,
-        screen.memory.len() as u32,
-        screen.limit,
-        &mut numbers,
-        &mut places,
-        &mut bands,
-    );
-    paint_each_row(
-        gathered, &numbers, &places, &bands, screen.list, screen.limit, screen.memory, width, first, count, picture,
+    paint_wanted(
+        screen,
+        width,
+        first,
+        count as usize,
+        |_| true,
+        picture,
         tags,
     );
 }
 
-fn paint_each_marked(
-    gathered: Gathered,
-    numbers: &[u32],
-    places: &[u64],
-    bands: &[u32],
-    list: &[u8],
-    limit: u32,
-    memory: &[u8],
-    width: u32,
-    marks: &[u8],
-    picture: &mut [u8],
-    tags: &mut [u8],
-)
-    requires within_limits { WithinLimits list.now (length memory.now) }
-    requires gathers { Gathers list.now (length memory.now) limit gathered numbers.now places.now bands.now }
-    requires marks_len_bound { (length marks.now ≤ tallest) × HoldRows width (length marks.now) picture.old tags.old }
-    ensures picture_after { picture.new ≡ patched marks.now
-        (row_colours memory.now (actions_of list.now (length memory.now) limit) width)
-        (3 * width)
-        picture.old }
-    ensures tags_after { tags.new ≡ patched marks.now
-        (row_tags memory.now (actions_of list.now (length memory.now) limit) width)
-        width
-        tags.old }
-{
-    let wide = width as usize;
-    let mut y: usize = 0;
-    let mut a: usize = 0;
-    let mut b: usize = 0;
-    while y < marks.len() {
-        let e = a + 3 * wide;
-        let f = b + wide;
-        if marks[y] == 1 {
-            paint_row(
-                gathered,
-                numbers,
-                places,
-                bands,
-                list,
-                limit,
-                y as u32,
-                memory,
-                width,
-                &mut picture[a..e],
-                &mut tags[b..f],
-            );
-        }
-        a = e;
-        b = f;
-        y += 1;
-    }
-}
-
-// Paints the rows that are marked, each straight into its part of the runs, and leaves every other row.
-pub fn paint_marked(
-    screen: &Screen,
-    width: u32,
-    marks: &[u8],
-    picture: &mut [u8],
-    tags: &mut [u8],
-)
+// Paints the rows that are marked, each into its part of the runs, and leaves every other row.
+pub fn paint_marked(screen: &Screen, width: u32, marks: &[u8], picture: &mut [u8], tags: &mut [u8])
     requires marks_len_bound { (length marks.now ≤ tallest) × HoldRows width (length marks.now) picture.old tags.old }
     ensures picture_after { picture.new ≡ patched marks.now
         (row_colours screen.now.memory.now (actions_in screen.now) width)
@@ -352,18 +171,13 @@ pub fn paint_marked(
         width
         tags.old }
 {
-    let mut numbers = [0; store::NUMBERS * kept::MOST];
-    let mut places = [0; store::PLACES * kept::MOST];
-    let mut bands = [0; 2 * kept::MOST];
-    let gathered = kept::gather(
-        screen.list,
-        screen.memory.len() as u32,
-        screen.limit,
-        &mut numbers,
-        &mut places,
-        &mut bands,
-    );
-    paint_each_marked(
-        gathered, &numbers, &places, &bands, screen.list, screen.limit, screen.memory, width, marks, picture, tags,
+    paint_wanted(
+        screen,
+        width,
+        0,
+        marks.len(),
+        |y| marks[y] == 1,
+        picture,
+        tags,
     );
 }
