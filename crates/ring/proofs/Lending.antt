@@ -18,17 +18,13 @@ flooded at count b run new h e =
     let f : new ≡ replicate count b = e ∙ ap (λ (k : ℕ). replicate k b) n in
     sym (rw f (laid-lent at count (replicate count b) run h (length-replicate count b)))
 
--- a run copied over a part of another
-pub copied-over : (at count : ℕ) (run src new : List ℕ) → at + count ≤ length run → length src ≡ count → new ≡ src
-    → laid at src run ≡ take at run ++ (new ++ drop (at + count - at) (drop at run))
-copied-over at count run src new h n e = sym (rw e (laid-lent at count src run h n))
-
 -- a part of one run copied over a part of another
 pub copied-part : (at count : ℕ) (run : List ℕ) (source : ℕ) (from new : List ℕ) → at + count ≤ length run → source + count ≤ length from
     → new ≡ take (source + count - source) (drop source from)
     → laid at (part source count from) run ≡ take at run ++ (new ++ drop (at + count - at) (drop at run))
 copied-part at count run source from new h k e =
-    copied-over at count run (part source count from) new h (part-long source count from k) (rw (lent-part source count from) at e)
+    let f : new ≡ part source count from = rw (lent-part source count from) at e in
+    sym (rw f (laid-lent at count (part source count from) run h (part-long source count from k)))
 
 -- a part of a run copied within it
 pub copied-within : (target source count : ℕ) (run : List ℕ) → source + count ≤ length run

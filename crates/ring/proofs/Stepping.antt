@@ -2,10 +2,7 @@
 use mathlib.Core.Path.{◌≡◌, ◌∙◌}
 use mathlib.Core.List.{List, [], ◌∷◌}
 use Prim.Native.Nat.{ℕ, ◌*◌, ◌<◌, ◌≤◌}
-use native.Mathlib.Omega.{arith}
 use borrow.Author.Tests.{lt-ltb, le-ltb}
-use Rattle.ring.specs.declared.command.Command.{Command}
-use Rattle.ring.specs.declared.command.Command.TheVariants as c
 use Rattle.ring.specs.declared.command.Fault.{Fault}
 use Rattle.ring.specs.declared.command.Taken.{Taken}
 use Rattle.ring.specs.declared.marks.Marks.{Marks}
@@ -14,18 +11,6 @@ use Rattle.ring.specs.Command.{Runs, Outcome, fault_number, size_of, came, does,
 use Rattle.ring.specs.Ring.{waiting}
 use Rattle.ring.specs.Run.{stopped, moved_on, faulted, command_at, words_at, settled, step}
 use Rattle.ring.proofs.Steps.{first_word, words_long}
-
-pub size-most : (command : Command) → size_of command ≤ 4
-unfolding size_of
-size-most c.Plain = omega arith
-size-most c.DlStart = omega arith
-size-most c.Swap = omega arith
-size-most c.ColdStart = omega arith
-size-most c.MemSet = omega arith
-size-most c.MemZero = omega arith
-size-most c.MemCpy = omega arith
-size-most c.Append = omega arith
-size-most c.Unknown = omega arith
 
 module _ (ring : List ℕ) (m : Marks) (x : Runs) where
   pub step-short : waiting m < 4 * size_of (command_at ring m) → step ring m x ≡ stopped 30 m x
