@@ -95,9 +95,9 @@ abbrev pub stop_at : Fault → ℕ → Option Stop
 stop_at fault place = Some (record { fault = fault; place = place })
 
 -- number and place: a run that came to the list's end has number 0, and '0 to 4 carry offset 0'
-abbrev pub number_of : Option Stop → ℕ
-number_of None = 0
-number_of (Some stop) = fault_number stop.fault
+abbrev pub number_told : Option Stop → ℕ
+number_told None = 0
+number_told (Some stop) = fault_number stop.fault
 
 abbrev pub place_told : Option Stop → ℕ
 place_told None = 0

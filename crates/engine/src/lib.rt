@@ -19,6 +19,6 @@ mod vertex;
 pub use fault::Fault;
 pub use handles::Handles;
 pub use kept::Engine;
-pub use run::{Advanced, Find, Stop, advance};
+pub use run::Stop;
 pub use running::{Ending, Run};
 pub use screen::Screen;

@@ -1,6 +1,6 @@
 // A screen's list run: to its end or fault at once, or from one drawing action to the next.
 ghost use Rattle.std.specs.Prelude.{◌≡◌};
-ghost use Rattle.engine.specs.Run.{ending_of, number_of, place_told};
+ghost use Rattle.engine.specs.Run.{ending_of, number_told, place_told};
 ghost use Rattle.engine.specs.Running.{actions_in, actions_left, run_in};
 ghost use Rattle.std.specs.Iterator.{YieldsFirst, item_count};
 
@@ -20,7 +20,7 @@ pub struct Ending {
 impl Ending {
     // The number of document 01's table.
     pub fn number(self) -> u32
-        ensures { result ≡ number_of self.stop }
+        ensures { result ≡ number_told self.stop }
     {
         self.stop.map_or(0, |stop| stop.fault.number())
     }

@@ -7,9 +7,13 @@ use native.Mathlib.Omega.{arith}
 use lib.Dec.{leb}
 use lib.ListN.{length}
 use borrow.Author.Tests.{leb-true}
-use Rattle.truth.proofs.Bools.{answered-no, answered-yes, both-alike, both_true}
-use Rattle.engine.specs.declared.run.Ending.{Ending}
-use Rattle.engine.specs.Run.{Ran, run_of, most_list, most_memory}
+use Rattle.truth.proofs.Bools.{answered-no, answered-yes, both-alike, both_true, never}
+use Rattle.std.specs.Prelude.{Option, Some, None, is_some}
+use Rattle.engine.specs.Fault.{fault_number}
+use Rattle.engine.specs.declared.fault.Fault.{Fault}
+use Rattle.engine.specs.declared.fault.Fault.TheVariants as fault
+use Rattle.engine.specs.declared.run.Stop.{Stop}
+use Rattle.engine.specs.Run.{Ran, number_told, run_of, most_list, most_memory}
 use Rattle.units.specs.Units.{tallest, widest}
 use Rattle.jokulvisp.specs.declared.check.JvAnswer.{JvAnswer}
 use Rattle.jokulvisp.specs.Check.{is_frame, is_list, is_memory, is_limit, refusal_of, refused, unless_refused, answer_of, CheckAnswer}
@@ -18,20 +22,42 @@ pub check-once : (list : List ℕ) (memory width height limit : ℕ) (a b : JvAn
 unfolding CheckAnswer
 check-once list memory width height limit a b p q = p ∙ sym q
 
--- how a run ends, as C is told
-abbrev pub answered : Ending → JvAnswer
-answered x = record { number = x.stop.number; list = 0; place = x.stop.place; count = x.count }
+-- a fault's number is none that a list which draws has
+fault-counts : (f : Fault) → fault_number f ≡ 0 → ⊥
+fault-counts fault.PastTheEnd e = omega (arith, e)
+fault-counts fault.NoCommand e = omega (arith, e)
+fault-counts fault.NoMeaning e = omega (arith, e)
+fault-counts fault.NotDrawn e = omega (arith, e)
+fault-counts fault.CallsTooDeep e = omega (arith, e)
+fault-counts fault.NothingToReturnTo e = omega (arith, e)
+fault-counts fault.NotAWord e = omega (arith, e)
+fault-counts fault.NothingBegun e = omega (arith, e)
+fault-counts fault.Undrawable e = omega (arith, e)
+fault-counts fault.LimitReached e = omega (arith, e)
+fault-counts fault.EndTooFar e = omega (arith, e)
+
+pub stopped-counts : (s : Option Stop) → true ≡ is_some s → number_told s ≡ 0 → ⊥
+stopped-counts (Some stop) e z = fault-counts stop.fault z
+stopped-counts None e z = never (sym e)
+
+pub none-counts : (s : Option Stop) → false ≡ is_some s → number_told s ≡ 0
+none-counts (Some stop) e = never e
+none-counts None e = refl
 
 -- a refusal carries its number and nothing else
 pub told-refused : (n : ℕ) (r : Ran) → (n ≡ 0 → ⊥) → unless_refused n r ≡ refused n
 told-refused zero r h = absurd (h refl)
 told-refused (suc n) r h = refl
 
+-- the answer of a list that is refused, and of one that is run
+pub refused-answer : (n m : ℕ) (r : Ran) → n ≡ m → (m ≡ 0 → ⊥) → refused m ≡ unless_refused n r
+refused-answer n m r e z = sym (rw e (told-refused m r z))
+
 told-done : (n : ℕ) (r : Ran) → (unless_refused n r).number ≡ 0 → n ≡ 0
 told-done zero r e = refl
 told-done (suc n) r e = e
 
-told-drew : (n : ℕ) (r : Ran) → (unless_refused n r).number ≡ 0 → r.stop.number ≡ 0
+told-drew : (n : ℕ) (r : Ran) → (unless_refused n r).number ≡ 0 → (number_told r.stop) ≡ 0
 told-drew zero r e = e
 told-drew (suc n) r e = absurd (omega (arith, e))
 
@@ -110,7 +136,7 @@ done list memory width height limit lent e = admitted (length list) memory width
 -- and the list drew
 pub drew :
     (list : List ℕ) (memory width height limit : ℕ) (lent : Bool) → (answer_of list memory width height limit lent).number ≡ 0 →
-    Passed (length list) memory width height limit lent × ((run_of list memory limit).stop.number ≡ 0)
+    Passed (length list) memory width height limit lent × ((number_told (run_of list memory limit).stop) ≡ 0)
 unfolding answer_of
 drew list memory width height limit lent e =
     let refusal = refusal_of (length list) memory width height limit lent in

@@ -8,7 +8,7 @@ use lib.Dec.{eqb, ltb}
 use lib.ListN.{length, get_or, replicate, get_or-replicate}
 use borrow.Author.Tests.{eq-eqb, ltb-true}
 use Rattle.truth.proofs.Bools.{both_true}
-use Rattle.engine.specs.Run.{actions_of, run_of}
+use Rattle.engine.specs.Run.{number_told, actions_of, run_of}
 use Rattle.paint.proofs.Rows.{colours-long, tags-long}
 use Rattle.paint.proofs.Stacks.{stacked-long, stacked-same}
 use Rattle.paint.specs.Picture.{patched, pixel_of, row_colours, row_tags, stacked}
@@ -31,7 +31,7 @@ record Framed (list memory : List ℕ) (width height limit : ℕ) (picture tags 
   list_long : is_list (length list) ≡ true
   memory_long : is_memory (length memory) ≡ true
   limit_right : is_limit limit ≡ true
-  runs : (run_of list (length memory) limit).stop.number ≡ 0
+  runs : (number_told (run_of list (length memory) limit).stop) ≡ 0
   colours : picture ≡ stacked (row_colours memory (actions_of list (length memory) limit) width) height
   tag_bytes : tags ≡ stacked (row_tags memory (actions_of list (length memory) limit) width) height
 

@@ -20,8 +20,8 @@ checked-by-hand =
       four = refl;
       five_accepted = refl;
       five_refused = refl;
-      six = refl;
-      seven = refl;
+      six = record { draws_nothing = refl; told = refl; placed = refl; fetched = refl };
+      seven = record { draws_nothing = refl; told = refl; placed = refl; fetched = refl };
       eight = refl;
       nine = λ alpha stored. refl;
       ten = refl;

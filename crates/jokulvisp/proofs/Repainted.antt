@@ -9,16 +9,16 @@ use lib.Dec.{eqb}
 use lib.ListN.{length}
 use borrow.Author.Tests.{eq-eqb, eqb-false, eqb-true, ne_eqb}
 use Rattle.truth.proofs.Bools.{both_true}
-use Rattle.engine.specs.Run.{Ran, WithinLimits, actions_of, ending_of, most_list, run_of}
-use Rattle.engine.specs.declared.run.Ending.{Ending}
+use Rattle.engine.specs.Run.{Ran, number_told, WithinLimits, actions_of, ending_of, most_list, run_of}
+use Rattle.engine.specs.declared.running.Ending.{Ending}
 use Rattle.paint.specs.Picture.{patched, row_colours, row_tags}
 use Rattle.repaint.proofs.Settling.{marks-settled}
 use Rattle.repaint.specs.Repaint.{Marks, marked}
 use Rattle.units.specs.Units.{tallest, widest}
 use Rattle.jokulvisp.specs.declared.check.JvAnswer.{JvAnswer}
-use Rattle.jokulvisp.specs.Check.{is_frame, is_limit, is_list, is_memory}
+use Rattle.jokulvisp.specs.Check.{ended, is_frame, is_limit, is_list, is_memory, refused_for}
 use Rattle.jokulvisp.specs.Paint.{is_lent}
-use Rattle.jokulvisp.specs.Repaint.{is_lent_for, refused_for, RepaintAnswer, repaint_due, repainted, unless_faulty}
+use Rattle.jokulvisp.specs.Repaint.{is_lent_for, RepaintAnswer, repaint_due, repainted, unless_faulty}
 use Rattle.jokulvisp.proofs.Checking.{height-within, list-within, memory-within, width-within}
 use Rattle.jokulvisp.proofs.Painted.{Same, lent-lends, number_of}
 
@@ -42,8 +42,8 @@ module _ (old new memory : List ℕ) (width height limit : ℕ) (lent : Bool) wh
     pub new_list : is_list (length new) ≡ true
     pub memory_long : is_memory (length memory) ≡ true
     pub limit_right : is_limit limit ≡ true
-    pub old_run : (run_of old (length memory) limit).stop.number ≡ 0
-    pub new_run : (run_of new (length memory) limit).stop.number ≡ 0
+    pub old_run : (number_told (run_of old (length memory) limit).stop) ≡ 0
+    pub new_run : (number_told (run_of new (length memory) limit).stop) ≡ 0
 
   draws-or-fails : Draws ⊎ Fails (repaint_due old new memory width height limit lent)
   unfolding repaint_due unless_faulty
@@ -53,16 +53,16 @@ module _ (old new memory : List ℕ) (width height limit : ℕ) (lent : Bool) wh
       λ b. tested (is_list (length new)) (refused_for 2 2) _ (λ t z. omega arith)
       λ c. tested (is_memory (length memory)) (refused_for 0 3) _ (λ t z. omega arith)
       λ d. tested (is_limit limit) (refused_for 0 4) _ (λ t z. omega arith)
-      λ e. tested (eqb (run_of old (length memory) limit).stop.number 0) _ _ (λ t z. eqb-false (run_of old (length memory) limit).stop.number 0 t z)
-      λ f. tested (eqb (run_of new (length memory) limit).stop.number 0) _ repainted (λ t z. eqb-false (run_of new (length memory) limit).stop.number 0 t z)
+      λ e. tested (eqb (number_told (run_of old (length memory) limit).stop) 0) _ _ (λ t z. eqb-false (number_told (run_of old (length memory) limit).stop) 0 t z)
+      λ f. tested (eqb (number_told (run_of new (length memory) limit).stop) 0) _ repainted (λ t z. eqb-false (number_told (run_of new (length memory) limit).stop) 0 t z)
       λ g. inl (record {
         frame = a;
         old_list = b;
         new_list = c;
         memory_long = d;
         limit_right = e;
-        old_run = eqb-true (run_of old (length memory) limit).stop.number 0 f;
-        new_run = eqb-true (run_of new (length memory) limit).stop.number 0 g;
+        old_run = eqb-true (number_told (run_of old (length memory) limit).stop) 0 f;
+        new_run = eqb-true (number_told (run_of new (length memory) limit).stop) 0 g;
       })
 
   -- the number is 0 only then
@@ -79,19 +79,19 @@ module _ (old new memory : List ℕ) (width height limit : ℕ) (lent : Bool) wh
         d.new_list,
         d.memory_long,
         d.limit_right,
-        eq-eqb (run_of old (length memory) limit).stop.number 0 d.old_run,
-        eq-eqb (run_of new (length memory) limit).stop.number 0 d.new_run,
+        eq-eqb (number_told (run_of old (length memory) limit).stop) 0 d.old_run,
+        eq-eqb (number_told (run_of new (length memory) limit).stop) 0 d.new_run,
       )
 
 -- A RUN that is over, as its number tells
 module _ (list : ℕ) (r : Ran) {e : Ending} (further : JvAnswer) (over : e ≡ ending_of r) where
-  pub faulty : (e.stop.number ≡ 0 → ⊥) → record { number = e.stop.number; list = list; place = e.stop.place; count = e.count } ≡ unless_faulty list r further
+  pub faulty : ((number_told e.stop) ≡ 0 → ⊥) → ended list e ≡ unless_faulty list r further
   unfolding unless_faulty
-  faulty z = rw (over, ne_eqb r.stop.number 0 (λ n. z (ap (λ (x : Ending). x.stop.number) over ∙ n)))
+  faulty z = rw (over, ne_eqb (number_told r.stop) 0 (λ n. z (ap (λ (x : Ending). number_told x.stop) over ∙ n)))
 
-  pub faultless : e.stop.number ≡ 0 → further ≡ unless_faulty list r further
+  pub faultless : (number_told e.stop) ≡ 0 → further ≡ unless_faulty list r further
   unfolding unless_faulty
-  faultless z = rw (eq-eqb r.stop.number 0 (sym (ap (λ (x : Ending). x.stop.number) over) ∙ z))
+  faultless z = rw (eq-eqb (number_told r.stop) 0 (sym (ap (λ (x : Ending). number_told x.stop) over) ∙ z))
 
 -- Of what is lent, answer and marks depend on the lengths alone.
 pub answer-settled :

@@ -1,9 +1,12 @@
 -- What a call on one list answers, and jv_check. Document 01, 'Number table': '1 to 4 are tested in that order', then the run; '0 to 4 carry
 -- offset 0, and 1 to 4 count 0'. It names no list: only repaint does.
-use Rattle.std.specs.Prelude.{◌≡◌, Bool, true, cond, ◌&&◌, List, ℕ, zero, suc, ◌%◌, eqb, leb, length}
-use Rattle.engine.specs.Run.{Ran, run_of, most_list, most_memory}
+use Rattle.std.specs.Prelude.{◌≡◌, ⊤, Bool, true, cond, Result, Ok, Err, ◌&&◌, List, ℕ, zero, suc, ◌%◌, eqb, leb, length}
+use Rattle.engine.specs.Run.{Ran, ending_of, number_told, place_told, run_of, most_list, most_memory}
+use Rattle.engine.specs.declared.running.Ending.{Ending}
 use Rattle.units.specs.Units.{tallest, widest}
 use Rattle.jokulvisp.specs.declared.check.JvAnswer.{JvAnswer}
+use Rattle.jokulvisp.specs.declared.check.Refusal.{Refusal}
+use Rattle.jokulvisp.specs.declared.check.Refusal.TheVariants as why
 
 -- THE LIMITS, document 01, 'The first build': 'Frame 1..800 wide, 1..600 high', 'List: 4..8,192 bytes, a multiple of 4', 'RAM_G: 0..1,048,576
 -- bytes', 'Step limit 1..65,536'
@@ -28,12 +31,31 @@ unfoldable pub refusal_of : ℕ → ℕ → ℕ → ℕ → ℕ → Bool → ℕ
 refusal_of list memory width height limit lent =
     cond (is_frame width height && lent) (cond (is_list list) (cond (is_memory memory) (cond (is_limit limit) 0 4) 3) 2) 1
 
--- THE ANSWER
+-- the number of each
+abbrev pub refusal_number : Refusal → ℕ
+refusal_number why.Frame = 1
+refusal_number why.List = 2
+refusal_number why.Memory = 3
+refusal_number why.Limit = 4
+
+-- no limit is broken, or this one is the first
+abbrev pub Admits : ℕ → ℕ → ℕ → ℕ → ℕ → Bool → Result ⊤ Refusal → Type 0
+Admits list memory width height limit lent (Ok done) = refusal_of list memory width height limit lent ≡ 0
+Admits list memory width height limit lent (Err refusal) = refusal_of list memory width height limit lent ≡ refusal_number refusal
+
+-- THE ANSWER. A limit that is broken, with the list that it is about
+abbrev pub refused_for : ℕ → ℕ → JvAnswer
+refused_for list number = record { number = number; list = list; place = 0; count = 0 }
+
 abbrev pub refused : ℕ → JvAnswer
-refused number = record { number = number; list = 0; place = 0; count = 0 }
+refused number = refused_for 0 number
+
+-- how the run of a list ended
+abbrev pub ended : ℕ → Ending → JvAnswer
+ended list ending = record { number = number_told ending.stop; list = list; place = place_told ending.stop; count = ending.count }
 
 abbrev pub answer_of_run : Ran → JvAnswer
-answer_of_run r = record { number = r.stop.number; list = 0; place = r.stop.place; count = r.count }
+answer_of_run r = ended 0 (ending_of r)
 
 -- a limit that is broken, by its number; with 0, none is, and the list is run
 abbrev pub unless_refused : ℕ → Ran → JvAnswer

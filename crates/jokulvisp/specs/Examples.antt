@@ -2,7 +2,7 @@
 -- run and compared.
 use Rattle.std.specs.Prelude.{◌≡◌, List, [], ◌∷◌, ◌++◌, ℕ, zero, suc, ℤ, pos, neg_ℤ, Ok, Err}
 use Rattle.action.specs.declared.numbers.Factor.TheVariants.{One}
-use Rattle.engine.specs.Run.{State, next_of, run_of, at_start}
+use Rattle.engine.specs.Run.{State, next_of, number_told, place_told, run_of, at_start}
 use Rattle.pixel.specs.Blend.{product, weight, blended}
 use Rattle.runs.specs.Runs.{bytes_of}
 use Rattle.units.specs.Units.{meant_pixels, floor16, sixteenth_at, floored}
@@ -16,9 +16,11 @@ list_of [] = []
 list_of (w ∷ ws) = bytes_of w ++ list_of ws
 
 -- these words run from the start, with no RAM_G and so many words allowed: they draw nothing and end with this number, place and count
-abbrev pub Ends : List ℕ → ℕ → ℕ → ℕ → ℕ → Type 0
-Ends words limit number place count =
-    run_of (list_of words) 0 limit ≡ record { actions = []; stop = record { number = number; place = place }; count = count }
+pub record Ends (words : List ℕ) (limit number place count : ℕ) : Type 0 where
+  pub draws_nothing : (run_of (list_of words) 0 limit).actions ≡ []
+  pub told : number_told (run_of (list_of words) 0 limit).stop ≡ number
+  pub placed : place_told (run_of (list_of words) 0 limit).stop ≡ place
+  pub fetched : (run_of (list_of words) 0 limit).count ≡ count
 
 -- the state after so many of these words
 abbrev pub after_words : List ℕ → ℕ → State

@@ -3,22 +3,18 @@
 -- numbers but 0 leave picture, tags and marks as lent.' Document 02 of 20, which wish 1 brings: 'Numbers 20 to 25 carry place, count and list as 10 to 19
 -- do.'
 use Rattle.std.specs.Prelude.{◌≡◌, Bool, cond, ◌&&◌, List, ℕ, ◌*◌, eqb, length}
-use Rattle.engine.specs.Run.{Ran, actions_of, run_of}
+use Rattle.engine.specs.Run.{Ran, actions_of, ending_of, number_told, run_of}
 use Rattle.paint.specs.Picture.{row_colours, row_tags, patched}
 use Rattle.truth.specs.Must.{must}
 use Rattle.repaint.specs.Repaint.{Marks, marked}
 use Rattle.jokulvisp.specs.declared.check.JvAnswer.{JvAnswer}
-use Rattle.jokulvisp.specs.Check.{is_frame, is_list, is_memory, is_limit}
+use Rattle.jokulvisp.specs.Check.{ended, is_frame, is_list, is_memory, is_limit, refused_for}
 use Rattle.jokulvisp.specs.Paint.{is_lent}
 
--- THE ANSWER. A limit that is broken, with the list that it is about
-abbrev pub refused_for : ℕ → ℕ → JvAnswer
-refused_for list number = record { number = number; list = list; place = 0; count = 0 }
-
--- a list that does not draw ends the call; otherwise it goes on
+-- THE ANSWER. A list that does not draw ends the call; otherwise it goes on
 unfoldable pub unless_faulty : ℕ → Ran → JvAnswer → JvAnswer
 unless_faulty list r further =
-    cond (eqb r.stop.number 0) further (record { number = r.stop.number; list = list; place = r.stop.place; count = r.count })
+    cond (eqb (number_told r.stop) 0) further (ended list (ending_of r))
 
 abbrev pub repainted : ℕ → JvAnswer
 repainted rows = record { number = 0; list = 0; place = 0; count = rows }

@@ -1,7 +1,8 @@
 // jv_check, and the limits and the answer that it shares with the other calls on lists.
 ghost use Rattle.std.specs.Prelude.{◌≡◌, length};
-ghost use Rattle.jokulvisp.specs.Check.{is_frame, is_list, is_memory, is_limit, refusal_of, answer_of, CheckAnswer};
+ghost use Rattle.jokulvisp.specs.Check.{Admits, ended, is_frame, is_list, is_memory, is_limit, refusal_number, refused_for, answer_of, CheckAnswer};
 
+use engine::{Ending, Screen};
 use units::{TALLEST, WIDEST};
 
 // Document 01, 'The first build'.
@@ -20,18 +21,68 @@ pub struct JvAnswer {
     pub count: u32,
 }
 
+// Why a call refuses its arguments. `Frame`: the frame is out of its limits, or the rows that are to be painted are not the
+// frame's, or the runs lent for them have other lengths.
+#[derive(Clone, Copy, PartialEq, Eq)]
+pub enum Refusal {
+    Frame,
+    List,
+    Memory,
+    Limit,
+}
+
+impl Refusal {
+    // Its number in document 01's table.
+    fn number(self) -> u32
+        ensures { result ≡ refusal_number self }
+    {
+        match self {
+            Refusal::Frame => 1,
+            Refusal::List => 2,
+            Refusal::Memory => 3,
+            Refusal::Limit => 4,
+        }
+    }
+}
+
+impl JvAnswer {
+    // A refusal, and which list it is about.
+    pub fn refused(list: u32, why: Refusal) -> JvAnswer
+        ensures { result ≡ refused_for list (refusal_number why) }
+    {
+        JvAnswer {
+            number: why.number(),
+            list,
+            place: 0,
+            count: 0,
+        }
+    }
+
+    // How the run of a list ended, and which list it was.
+    pub fn ended(list: u32, ending: Ending) -> JvAnswer
+        ensures { result ≡ ended list ending }
+    {
+        JvAnswer {
+            number: ending.number(),
+            list,
+            place: ending.place(),
+            count: ending.count,
+        }
+    }
+}
+
 #[tactic(auto, unfolding(crate::specs::Check::is_frame))]
 pub fn is_frame(width: u32, height: u32) -> bool
     ensures { result ≡ is_frame width height }
 {
-    (1 <= width) & (width <= WIDEST) & ((1 <= height) & (height <= TALLEST))
+    1 <= width && width <= WIDEST && (1 <= height && height <= TALLEST)
 }
 
 #[tactic(auto, unfolding(crate::specs::Check::is_list))]
 pub fn is_list(length: usize) -> bool
     ensures { result ≡ is_list length }
 {
-    (4 <= length) & (length <= LONGEST_LIST) & (length % 4 == 0)
+    4 <= length && length <= LONGEST_LIST && length % 4 == 0
 }
 
 #[tactic(auto, unfolding(crate::specs::Check::is_memory))]
@@ -45,28 +96,35 @@ pub fn is_memory(length: usize) -> bool
 pub fn is_limit(limit: u32) -> bool
     ensures { result ≡ is_limit limit }
 {
-    (1 <= limit) & (limit <= MOST_STEPS)
+    1 <= limit && limit <= MOST_STEPS
 }
 
-// Number 1, 2, 3 or 4 of document 01's table, or 0 where all is within its limits. `lent`: the rows that are to be painted
-// are the frame's, and the runs lent for them have their lengths.
+// The first limit that is broken. `lent`: the rows that are to be painted are the frame's, and the runs lent for them have
+// their lengths.
 #[tactic(auto, unfolding(crate::specs::Check::refusal_of))]
-fn refuse(list: usize, memory: usize, width: u32, height: u32, limit: u32, lent: bool) -> u32
-    ensures { result ≡ refusal_of list memory width height limit lent }
+fn admit(
+    list: usize,
+    memory: usize,
+    width: u32,
+    height: u32,
+    limit: u32,
+    lent: bool,
+) -> Result<(), Refusal>
+    ensures { Admits list memory width height limit lent result }
 {
-    if !(is_frame(width, height) & lent) {
-        return 1;
+    if !(is_frame(width, height) && lent) {
+        return Err(Refusal::Frame);
     }
     if !is_list(list) {
-        return 2;
+        return Err(Refusal::List);
     }
     if !is_memory(memory) {
-        return 3;
+        return Err(Refusal::Memory);
     }
     if !is_limit(limit) {
-        return 4;
+        return Err(Refusal::Limit);
     }
-    0
+    Ok(())
 }
 
 #[tactic(auto, unfolding(crate::specs::Check::answer_of))]
@@ -80,21 +138,16 @@ pub fn answer(
 ) -> JvAnswer
     ensures { result ≡ answer_of list.now (length memory.now) width height limit lent }
 {
-    let number = refuse(list.len(), memory.len(), width, height, limit, lent);
-    if number != 0 {
-        return JvAnswer {
-            number: number,
-            list: 0,
-            place: 0,
-            count: 0,
-        };
-    }
-    let ending = engine::finish(list, memory.len() as u32, limit);
-    JvAnswer {
-        number: ending.stop.number,
-        list: 0,
-        place: ending.stop.place,
-        count: ending.count,
+    match admit(list.len(), memory.len(), width, height, limit, lent) {
+        Ok(()) => {
+            let screen = Screen {
+                list,
+                memory,
+                limit,
+            };
+            JvAnswer::ended(0, screen.finish())
+        }
+        Err(why) => JvAnswer::refused(0, why),
     }
 }
 

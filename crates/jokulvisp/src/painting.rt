@@ -3,13 +3,16 @@ ghost use Rattle.std.specs.Prelude.{◌≡◌, length};
 ghost use Rattle.jokulvisp.specs.Paint.{is_lent, Lends, RowsAnswer, PaintRowAnswer, PaintAnswer};
 
 use crate::check::{JvAnswer, answer};
+use engine::Screen;
 
 // The frame's limits may be broken here, and three times the pixels past 64 bits: so they are taken off the picture's length twice.
 pub fn is_lent(width: u32, rows: u32, picture: usize, tags: usize) -> bool
     ensures { result ≡ is_lent width rows picture tags }
 {
     let pixels = (rows as u64) * (width as u64);
-    let last = (picture as u64).saturating_sub(pixels).saturating_sub(pixels);
+    let last = (picture as u64)
+        .saturating_sub(pixels)
+        .saturating_sub(pixels);
     (last == pixels) & (tags as u64 == pixels)
 }
 
@@ -34,7 +37,12 @@ fn answer_rows(
     if told.number != 0 {
         return told;
     }
-    paint::paint_rows(list, memory, limit, width, first, count, picture, tags);
+    let screen = Screen {
+        list,
+        memory,
+        limit,
+    };
+    paint::paint_rows(&screen, width, first, count, picture, tags);
     told
 }
 

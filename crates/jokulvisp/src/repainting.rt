@@ -1,47 +1,30 @@
 // jv_repaint: the rows that differ between two lists.
-ghost use Rattle.std.specs.Prelude.{◌≡◌, ◌≤◌, length};
-ghost use Rattle.engine.specs.Run.{WithinLimits, most_list, run_of};
-ghost use Rattle.jokulvisp.specs.Repaint.{refused_for, repainted, repaint_due, unless_faulty, RepaintAnswer};
+ghost use Rattle.std.specs.Prelude.{◌≡◌};
+ghost use Rattle.engine.specs.Running.{run_in};
+ghost use Rattle.jokulvisp.specs.Repaint.{repainted, repaint_due, unless_faulty, RepaintAnswer};
 
-use crate::check::JvAnswer;
+use crate::check::{JvAnswer, Refusal};
 use crate::{check, painting};
+use engine::Screen;
 
-fn refuse(list: u32, number: u32) -> JvAnswer
-    ensures { result ≡ refused_for list number }
+// A list that does not draw, named and told, the old one first. With number 0 no row is counted yet.
+fn answer_runs(old: &Screen, new: &Screen) -> JvAnswer
+    ensures { result ≡ unless_faulty 1 (run_in old.now) (unless_faulty 2 (run_in new.now) (repainted 0)) }
 {
+    let former = old.finish();
+    if former.stop.is_some() {
+        return JvAnswer::ended(1, former);
+    }
+    let latter = new.finish();
+    if latter.stop.is_some() {
+        return JvAnswer::ended(2, latter);
+    }
     JvAnswer {
-        number: number,
-        list: list,
+        number: 0,
+        list: 0,
         place: 0,
         count: 0,
     }
-}
-
-// A list that does not draw, named and told, the old one first. With number 0 no row is counted yet.
-fn answer_runs(old: &[u8], new: &[u8], memory: u32, limit: u32) -> JvAnswer
-    requires { (length old.now ≤ most_list) × WithinLimits new.now memory }
-    ensures { result ≡ unless_faulty 1 (run_of old.now memory limit)
-        (unless_faulty 2 (run_of new.now memory limit) (repainted 0)) }
-{
-    let former = engine::finish(old, memory, limit);
-    if former.stop.number != 0 {
-        return JvAnswer {
-            number: former.stop.number,
-            list: 1,
-            place: former.stop.place,
-            count: former.count,
-        };
-    }
-    let latter = engine::finish(new, memory, limit);
-    if latter.stop.number != 0 {
-        return JvAnswer {
-            number: latter.stop.number,
-            list: 2,
-            place: latter.stop.place,
-            count: latter.count,
-        };
-    }
-    refuse(0, 0)
 }
 
 #[tactic(auto, unfolding(crate::specs::Repaint::repaint_due))]
@@ -56,22 +39,32 @@ fn answer(
 ) -> JvAnswer
     ensures { result ≡ repaint_due old.now new.now memory.now width height limit lent 0 }
 {
-    if !(check::is_frame(width, height) & lent) {
-        return refuse(0, 1);
+    if !(check::is_frame(width, height) && lent) {
+        return JvAnswer::refused(0, Refusal::Frame);
     }
     if !check::is_list(old.len()) {
-        return refuse(1, 2);
+        return JvAnswer::refused(1, Refusal::List);
     }
     if !check::is_list(new.len()) {
-        return refuse(2, 2);
+        return JvAnswer::refused(2, Refusal::List);
     }
     if !check::is_memory(memory.len()) {
-        return refuse(0, 3);
+        return JvAnswer::refused(0, Refusal::Memory);
     }
     if !check::is_limit(limit) {
-        return refuse(0, 4);
+        return JvAnswer::refused(0, Refusal::Limit);
     }
-    answer_runs(old, new, memory.len() as u32, limit)
+    let old = Screen {
+        list: old,
+        memory,
+        limit,
+    };
+    let new = Screen {
+        list: new,
+        memory,
+        limit,
+    };
+    answer_runs(&old, &new)
 }
 
 pub fn jv_repaint(
@@ -95,7 +88,17 @@ pub fn jv_repaint(
     if told.number != 0 {
         return told;
     }
-    let rows = repaint::repaint(old, new, memory, limit, width, picture, tags, marks);
+    let old = Screen {
+        list: old,
+        memory,
+        limit,
+    };
+    let new = Screen {
+        list: new,
+        memory,
+        limit,
+    };
+    let rows = repaint::repaint(&old, &new, width, picture, tags, marks);
     JvAnswer {
         number: 0,
         list: 0,

@@ -6,10 +6,20 @@ pub returns-then-told-ne0 : goal.returns-then-told-ne0
 returns-then-told-ne0 c =
     refused-as-lent (rw c.is_lent.ensures at c.answer-told.ensures) (λ z. omega (arith, z, c.if-told-ne0.true))
 
+pub invariant_of-old : goal.invariant_of-old
+invariant_of-old c =
+    let m = may-repaint _ _ _ _ _ _ _ _ _ (rw c.is_lent.ensures at c.answer-told.ensures) (omega (arith, c.if-told-ne0.false)) in
+    record { within = (m.0.0, m.0.1.1) }
+
+pub invariant_of-new : goal.invariant_of-new
+invariant_of-new c =
+    let m = may-repaint _ _ _ _ _ _ _ _ _ (rw c.is_lent.ensures at c.answer-told.ensures) (omega (arith, c.if-told-ne0.false)) in
+    record { within = m.0.1 }
+
 pub repaint-rows-requires : goal.repaint-rows-requires
 repaint-rows-requires c =
     let m = may-repaint _ _ _ _ _ _ _ _ _ (rw c.is_lent.ensures at c.answer-told.ensures) (omega (arith, c.if-told-ne0.false)) in
-    record { len_bound = m.0; marks_len_bound = m.1 }
+    record { marks_len_bound = m.1 }
 
 pub returns : goal.returns
 returns c =
