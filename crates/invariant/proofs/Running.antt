@@ -10,7 +10,7 @@ use Rattle.engine.specs.declared.context.Context.{Context}
 use Rattle.engine.specs.declared.machine.Event.{Event}
 use Rattle.engine.specs.declared.machine.Event.TheVariants as e
 use Rattle.engine.specs.declared.machine.Machine.{Machine}
-use Rattle.engine.specs.Run.{State, place_of, step_of, event_of, next_of, action_of, Ran, after, run}
+use Rattle.engine.specs.Run.{State, place_of, step_of, event_of, next_of, action_of, place_told, Ran, after, run}
 use Rattle.invariant.specs.Actions.{Orderly}
 use Rattle.invariant.specs.Each.{Each}
 use Rattle.invariant.specs.State.{Aligned, Valid}
@@ -18,7 +18,7 @@ use Rattle.invariant.proofs.Commands.{ValidEvent}
 use Rattle.invariant.proofs.Steps.{step-valid, next-valid}
 
 pub record ValidRan (r : Ran) : Type 0 where
-  pub place : Aligned r.stop.place
+  pub place : Aligned (place_told r.stop)
   pub actions : Each (λ (action : Action). Orderly action.drawing) r.actions
 
 after-valid : (at : ℕ) (c : Context) (m : Machine) (event : Event) (rest : Ran) → Aligned at → ValidEvent m event → ValidRan rest → ValidRan (after at c event rest)

@@ -14,7 +14,7 @@ use Rattle.engine.specs.declared.handles.Layout.{Layout}
 use Rattle.engine.specs.declared.machine.Machine.{Machine}
 use Rattle.engine.specs.Drawn.{drawn_format}
 use Rattle.engine.specs.Handles.{settings_at}
-use Rattle.engine.specs.Run.{State, next_of, at_start, run_of}
+use Rattle.engine.specs.Run.{State, next_of, at_start, place_told, run_of}
 use Rattle.engine.specs.Saves.{Whole}
 use Rattle.invariant.specs.Each.{Each}
 
@@ -107,4 +107,4 @@ pub record StatesValid : Type 0 where
   pub step : (list : List ℕ) (memory : ℕ) (x : State) → Valid x → Valid (next_of list memory x)
   pub always : (list : List ℕ) (memory n : ℕ) → Valid (state_after list memory n)
   -- 'Numbers 10 to 19 carry the byte offset of the word': where a run stops is where a word can lie
-  pub stops : (list : List ℕ) (memory limit : ℕ) → Aligned (run_of list memory limit).stop.place
+  pub stops : (list : List ℕ) (memory limit : ℕ) → Aligned (place_told (run_of list memory limit).stop)
