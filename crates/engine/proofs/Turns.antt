@@ -9,7 +9,6 @@ use borrow.Author.Tests.{lt-ltb, le-ltb}
 use lib.ListN.{length}
 use Rattle.engine.specs.declared.kept.Engine.{Engine}
 use Rattle.engine.specs.declared.context.Context.{Context}
-use Rattle.engine.specs.declared.fault.Fault.{Fault}
 use Rattle.engine.specs.declared.handles.Handles.{Handles}
 use Rattle.engine.specs.declared.machine.Event.{Event}
 use Rattle.engine.specs.declared.machine.Event.TheVariants as e
@@ -17,7 +16,6 @@ use Rattle.engine.specs.declared.machine.Shape.{Shape}
 use Rattle.engine.specs.declared.machine.Stepped.{Stepped}
 use Rattle.engine.specs.declared.run.Find.TheVariants as f
 use Rattle.engine.specs.Advance.{more, then, heard}
-use Rattle.engine.specs.Fault.{fault_number}
 use Rattle.engine.specs.Run.{State, place_of, step_of, settled, action_of, stop_at, Ran, run, after, counted}
 
 -- one word more, counted here or there
@@ -79,9 +77,9 @@ module _ (list : List ℕ) (memory : ℕ) (x : State) (allowed : ℕ) where
           let k : allowed - left + 1 ≡ allowed - (left - 1) = omega arith in
           rw (turn left some inside, h, k)
 
-      pub faulted : (fault : Fault) → s.event ≡ e.Fault fault → (rest : Ran) →
-          more (allowed - left) (run list memory left x) ≡ then (allowed - (left - 1)) (f.Over (stop_at (fault_number fault) (place_of x))) rest
+      pub faulted : (number : ℕ) → s.event ≡ e.Fault number → (rest : Ran) →
+          more (allowed - left) (run list memory left x) ≡ then (allowed - (left - 1)) (f.Over (stop_at number (place_of x))) rest
       unfolding after then
-      faulted fault h rest =
+      faulted number h rest =
           let k : allowed - left + 1 ≡ allowed - (left - 1) = omega arith in
           rw (turn left some inside, h, k)

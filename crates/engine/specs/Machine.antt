@@ -12,6 +12,7 @@ use Rattle.engine.specs.declared.machine.Machine.{Machine}
 use Rattle.engine.specs.declared.machine.Stepped.{Stepped}
 use Rattle.engine.specs.Command.{obeys}
 use Rattle.engine.specs.Context.{starting}
+use Rattle.engine.specs.Fault.{fault_number}
 use Rattle.engine.specs.Vertex.{vertexed}
 
 -- every run starts at the list's first word, with no call open and no primitive begun
@@ -38,8 +39,8 @@ follows m hs memory (t.Place vertex) = record { stepped = vertexed m hs memory v
 abbrev pub steps_by : Machine → Handles → ℕ → Read → Steps
 steps_by m hs memory (r.Command word) =
     follows (obeys m hs word).obeyed.machine (obeys m hs word).handles memory (obeys m hs word).obeyed.then
-steps_by m hs memory r.NoCommand = record { stepped = record { machine = m; event = e.Fault fault.NoCommand }; handles = hs }
-steps_by m hs memory r.NoMeaning = record { stepped = record { machine = m; event = e.Fault fault.NoMeaning }; handles = hs }
+steps_by m hs memory r.NoCommand = record { stepped = record { machine = m; event = e.Fault (fault_number fault.NoCommand) }; handles = hs }
+steps_by m hs memory r.NoMeaning = record { stepped = record { machine = m; event = e.Fault (fault_number fault.NoMeaning) }; handles = hs }
 
 unfoldable pub steps : Machine → Handles → ℕ → ℕ → Steps
 steps m hs memory bits = steps_by m hs memory (read_word bits)

@@ -19,7 +19,6 @@ use Rattle.engine.specs.declared.machine.Shape.{Shape}
 use Rattle.engine.specs.declared.machine.Shape.TheVariants as s
 use Rattle.engine.specs.Changes.{with_place}
 use Rattle.engine.specs.Context.{ink_of, scissor_of}
-use Rattle.engine.specs.Fault.{fault_number}
 use Rattle.engine.specs.Handles.{all_unset}
 use Rattle.engine.specs.Kept.{begun, pushed, popped, called, returned}
 use Rattle.engine.specs.Machine.{Steps, steps}
@@ -73,7 +72,7 @@ settled (e.Call to) x = called x to
 settled e.Return x = returned x
 settled (e.Draw shape) x = x
 settled e.Ended x = x
-settled (e.Fault fault) x = x
+settled (e.Fault number) x = x
 
 abbrev pub next_of : List ℕ → ℕ → State → State
 next_of list memory x =
@@ -111,7 +110,7 @@ after at c (e.Call to) rest = counted rest
 after at c e.Return rest = counted rest
 after at c (e.Draw shape) rest = acted (action_of c shape) (counted rest)
 after at c e.Ended rest = stopped (stop_at 0 0) 1
-after at c (e.Fault fault) rest = stopped (stop_at (fault_number fault) at) 1
+after at c (e.Fault number) rest = stopped (stop_at number at) 1
 
 -- 19 before 10, and both before the word is looked at
 unfoldable pub run : List ℕ → ℕ → ℕ → State → Ran

@@ -43,7 +43,8 @@ pub enum Shape {
 }
 
 // What a word came to: nothing to tell, a context to save or to restore, a call to take or to return from, an action, the
-// list's end, or a fault.
+// list's end, or a fault by its number. (With a `Fault` in it, an event no longer stays in registers: a word costs five times
+// as many instructions.)
 #[derive(Clone, Copy)]
 pub enum Event {
     Quiet,
@@ -53,7 +54,7 @@ pub enum Event {
     Return,
     Draw(Shape),
     Ended,
-    Fault(Fault),
+    Fault(u32),
 }
 
 #[derive(Clone, Copy)]
@@ -92,11 +93,11 @@ impl Machine {
             }
             Read::NoCommand => Stepped {
                 machine: self,
-                event: Event::Fault(Fault::NoCommand),
+                event: Event::Fault(Fault::NoCommand.number()),
             },
             Read::NoMeaning => Stepped {
                 machine: self,
-                event: Event::Fault(Fault::NoMeaning),
+                event: Event::Fault(Fault::NoMeaning.number()),
             },
         }
     }

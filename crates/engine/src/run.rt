@@ -202,8 +202,8 @@ pub fn advance(
             Event::Ended => {
                 return over(now, kept, left, 0, 0);
             }
-            Event::Fault(fault) => {
-                return over(now, kept, left, fault.number(), at);
+            Event::Fault(number) => {
+                return over(now, kept, left, number, at);
             }
         }
     }

@@ -190,7 +190,7 @@ returns-in-Fault c =
     let s = c.step-stepped in
     let some : 0 < l.left = omega (arith, c.loop-left-test.true) in
     let inside : l.now.at < length a.list.now = omega (arith, c.if-list-wide.false, c.wide.ensures) in
-    rw (c.over-in-Fault.ensures, c.number-in-Fault.ensures)
+    rw c.over-in-Fault.ensures
     (record {
       spent = omega (arith, l.invariant.0);
       whole = l.invariant.1.1 ∙ ap (heard a.halt) (faulted a.list.now a.memory x a.allowed s.result _ (s.ensures.0 ∙ rw w) (s.ensures.1 ∙ rw w) l.left some l.invariant.0 inside _ c.in-Fault.is _);
