@@ -39,7 +39,7 @@ Ready (e.Call to) m = m.depth < 4
 Ready e.Return m = 0 < m.depth
 Ready (e.Draw shape) m = Unit
 Ready e.Ended m = Unit
-Ready (e.Fault fault) m = Unit
+Ready (e.Fault number) m = Unit
 
 abbrev ReadyThen : Then → Machine → Type 0
 ReadyThen (t.Tell event) m = Ready event m

@@ -90,7 +90,7 @@ settled-whole (e.Call to) x w = w
 settled-whole e.Return x w = w
 settled-whole (e.Draw shape) x w = w
 settled-whole e.Ended x w = w
-settled-whole (e.Fault fault) x w = w
+settled-whole (e.Fault number) x w = w
 
 next-whole : (list : List ℕ) (memory : ℕ) (x : State) → Whole x.engine.kept → Whole (next_of list memory x).engine.kept
 next-whole list memory x w = settled-whole (event_of list memory x) _ w

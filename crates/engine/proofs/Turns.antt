@@ -10,8 +10,8 @@ use lib.ListN.{length}
 use Rattle.engine.specs.declared.kept.Engine.{Engine}
 use Rattle.engine.specs.declared.context.Context.{Context}
 use Rattle.std.specs.Prelude.{None}
-use Rattle.engine.specs.declared.fault.Fault.{Fault}
 use Rattle.engine.specs.declared.fault.Fault.TheVariants as why
+use Rattle.engine.specs.Fault.{fault_number}
 use Rattle.engine.specs.declared.handles.Handles.{Handles}
 use Rattle.engine.specs.declared.machine.Event.{Event}
 use Rattle.engine.specs.declared.machine.Event.TheVariants as e
@@ -28,7 +28,7 @@ on-count allowed left r some within =
     rw k
 
 module _ (list : List ℕ) (memory : ℕ) (x : State) (allowed : ℕ) where
-  pub past : (left : ℕ) → 0 < left → length list ≤ place_of x → (rest : Ran) → more (allowed - left) (run list memory left x) ≡ then (allowed - left) (f.Over (stop_at why.PastTheEnd (place_of x))) rest
+  pub past : (left : ℕ) → 0 < left → length list ≤ place_of x → (rest : Ran) → more (allowed - left) (run list memory left x) ≡ then (allowed - left) (f.Over (stop_at (fault_number why.PastTheEnd) (place_of x))) rest
   unfolding run then
   past zero some h rest = absurd (omega arith)
   past (suc n) some h rest =
@@ -80,9 +80,9 @@ module _ (list : List ℕ) (memory : ℕ) (x : State) (allowed : ℕ) where
           let k : allowed - left + 1 ≡ allowed - (left - 1) = omega arith in
           rw (turn left some inside, h, k)
 
-      pub faulted : (fault : Fault) → s.event ≡ e.Fault fault → (rest : Ran) →
-          more (allowed - left) (run list memory left x) ≡ then (allowed - (left - 1)) (f.Over (stop_at fault (place_of x))) rest
+      pub faulted : (number : ℕ) → s.event ≡ e.Fault number → (rest : Ran) →
+          more (allowed - left) (run list memory left x) ≡ then (allowed - (left - 1)) (f.Over (stop_at number (place_of x))) rest
       unfolding after then
-      faulted fault h rest =
+      faulted number h rest =
           let k : allowed - left + 1 ≡ allowed - (left - 1) = omega arith in
           rw (turn left some inside, h, k)

@@ -17,6 +17,7 @@ use Rattle.engine.specs.declared.machine.Shape.TheVariants as s
 use Rattle.engine.specs.declared.vertex.Vertex.{Vertex}
 use Rattle.engine.specs.Changes.{with_brush, with_masks, with_clearing, with_placing, with_place, coloured, faded, tagged, alpha_tested, stencil_tested, stencilled, blended, clear_coloured, clear_faded, clear_stencilled, clear_tagged, colour_masked, stencil_masked, tag_masked, scissored_at, scissored_to, point_sized, line_wide, formatted, handling, celled, moved_across, moved_down}
 use Rattle.engine.specs.Drawn.{drawn_format, drawn_size, drawn_primitive}
+use Rattle.engine.specs.Fault.{fault_number}
 use Rattle.engine.specs.Handles.{sourced, laid_out, sized, laid_out_high, sized_high}
 use Rattle.engine.specs.Vertex.{placed2f, placed2ii}
 
@@ -35,7 +36,7 @@ abbrev pub quietly : Machine → Handles → Obeys
 quietly m hs = telling m hs e.Quiet
 
 abbrev pub faulty : Machine → Handles → Fault → Obeys
-faulty m hs why = telling m hs (e.Fault why)
+faulty m hs why = telling m hs (e.Fault (fault_number why))
 
 -- 'BEGIN and END drop an open corner; END leaves no primitive begun', and of lines: 'BEGIN and END drop an open end'
 abbrev pub beginning : Machine → Option Primitive → Machine

@@ -10,7 +10,6 @@ use Rattle.runs.specs.Runs.{word_at}
 use Rattle.engine.specs.declared.running.Ending.{Ending}
 use Rattle.engine.specs.declared.run.Stop.{Stop}
 use Rattle.engine.specs.declared.context.Context.{Context}
-use Rattle.engine.specs.declared.fault.Fault.{Fault}
 use Rattle.engine.specs.declared.fault.Fault.TheVariants as fault
 use Rattle.engine.specs.declared.handles.Handles.{Handles}
 use Rattle.engine.specs.declared.kept.Engine.{Engine}
@@ -75,7 +74,7 @@ settled (e.Call to) x = called x to
 settled e.Return x = returned x
 settled (e.Draw shape) x = x
 settled e.Ended x = x
-settled (e.Fault why) x = x
+settled (e.Fault number) x = x
 
 abbrev pub next_of : List ℕ → ℕ → State → State
 next_of list memory x =
@@ -91,13 +90,13 @@ pub record Ran : Type 0 where
   pub stop : Option Stop
   pub count : ℕ
 
-abbrev pub stop_at : Fault → ℕ → Option Stop
-stop_at fault place = Some (record { fault = fault; place = place })
+abbrev pub stop_at : ℕ → ℕ → Option Stop
+stop_at number place = Some (record { number = number; place = place })
 
 -- number and place: a run that came to the list's end has number 0, and '0 to 4 carry offset 0'
 abbrev pub number_told : Option Stop → ℕ
 number_told None = 0
-number_told (Some stop) = fault_number stop.fault
+number_told (Some stop) = stop.number
 
 abbrev pub place_told : Option Stop → ℕ
 place_told None = 0
@@ -122,15 +121,15 @@ after at c (e.Call to) rest = counted rest
 after at c e.Return rest = counted rest
 after at c (e.Draw shape) rest = acted (action_of c shape) (counted rest)
 after at c e.Ended rest = stopped None 1
-after at c (e.Fault why) rest = stopped (stop_at why at) 1
+after at c (e.Fault number) rest = stopped (stop_at number at) 1
 
 -- 19 before 10, and both before the word is looked at
 unfoldable pub run : List ℕ → ℕ → ℕ → State → Ran
-run list memory zero x = stopped (stop_at fault.LimitReached (place_of x)) 0
+run list memory zero x = stopped (stop_at (fault_number fault.LimitReached) (place_of x)) 0
 run list memory (suc n) x =
     cond (ltb (place_of x) (length list))
     (after (place_of x) (next_of list memory x).engine.now.context (event_of list memory x) (run list memory n (next_of list memory x)))
-    (stopped (stop_at fault.PastTheEnd (place_of x)) 0)
+    (stopped (stop_at (fault_number fault.PastTheEnd) (place_of x)) 0)
 
 -- 'Every run starts with all handles unset.'
 abbrev pub at_start : State

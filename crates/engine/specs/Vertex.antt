@@ -19,6 +19,7 @@ use Rattle.engine.specs.declared.machine.Shape.TheVariants as s
 use Rattle.engine.specs.declared.machine.Stepped.{Stepped}
 use Rattle.engine.specs.declared.vertex.Vertex.{Vertex}
 use Rattle.engine.specs.Changes.{with_corner}
+use Rattle.engine.specs.Fault.{fault_number}
 use Rattle.engine.specs.Handles.{bitmap_at}
 
 -- 'A VERTEX2F number is multiplied by 2^(4-frac), a VERTEX2II number by 16, then the translation is added.'
@@ -56,7 +57,7 @@ rectangled c v width = e.Draw (s.Rectangle (corners_in_order c.x c.y v.x v.y (re
 
 abbrev pub bitmapped : Option Bitmap → Event
 bitmapped (Some b) = e.Draw (s.Bitmap b)
-bitmapped None = e.Fault fault.Undrawable
+bitmapped None = e.Fault (fault_number fault.Undrawable)
 
 -- the second corner draws, and a third vertex opens a new rectangle
 abbrev pub cornered : Machine → Vertex → Option End → Stepped
@@ -69,7 +70,7 @@ segment_from from v width primitive = record { from = from; to = end_at v; width
 
 -- '20 when an end lies outside -32768..32767 sixteenths, .. at the vertex that completes the segment'
 unfoldable pub segmented : Segment → Event
-segmented d = cond (short_ends d) (e.Draw (s.Segment d)) (e.Fault fault.EndTooFar)
+segmented d = cond (short_ends d) (e.Draw (s.Segment d)) (e.Fault (fault_number fault.EndTooFar))
 
 -- a vertex that finds no open end opens one; else it completes a segment of the primitive's number and leaves `next`, an
 -- open end or none
@@ -85,7 +86,7 @@ drawn_by m hs memory v (Some p.Points) = record { machine = m; event = pointed v
 drawn_by m hs memory v (Some p.Lines) = linked m v 3 None m.corner
 drawn_by m hs memory v (Some p.LineStrip) = linked m v 4 (Some (end_at v)) m.corner
 drawn_by m hs memory v (Some p.Rects) = cornered m v m.corner
-drawn_by m hs memory v None = record { machine = m; event = e.Fault fault.NothingBegun }
+drawn_by m hs memory v None = record { machine = m; event = e.Fault (fault_number fault.NothingBegun) }
 
 unfoldable pub vertexed : Machine → Handles → ℕ → Vertex → Stepped
 vertexed m hs memory v = drawn_by m hs memory v m.primitive

@@ -40,7 +40,7 @@ impl Machine {
     {
         let current = self.context.placing.handle;
         let quiet = Then::Tell(Event::Quiet);
-        let undrawn = Then::Tell(Event::Fault(Fault::NotDrawn));
+        let undrawn = Then::Tell(Event::Fault(Fault::NotDrawn.number()));
         let then = match word {
             Word::Vertex2f { x, y } => Then::Place(place2f(self.context.placing, x, y)),
             Word::Vertex2ii { x, y, handle, cell } => Then::Place(place2ii(
@@ -185,11 +185,11 @@ impl Machine {
             }
             Word::Call { dest } => {
                 if 4 <= self.depth {
-                    Then::Tell(Event::Fault(Fault::CallsTooDeep))
+                    Then::Tell(Event::Fault(Fault::CallsTooDeep.number()))
                 } else if dest % 4 == 0 {
                     Then::Tell(Event::Call(dest))
                 } else {
-                    Then::Tell(Event::Fault(Fault::NotAWord))
+                    Then::Tell(Event::Fault(Fault::NotAWord.number()))
                 }
             }
             Word::Jump { dest } => {
@@ -197,7 +197,7 @@ impl Machine {
                     self.at = dest;
                     quiet
                 } else {
-                    Then::Tell(Event::Fault(Fault::NotAWord))
+                    Then::Tell(Event::Fault(Fault::NotAWord.number()))
                 }
             }
             Word::Begin { prim } => {
@@ -225,7 +225,7 @@ impl Machine {
             Word::RestoreContext => Then::Tell(Event::Restore),
             Word::Return => {
                 if self.depth == 0 {
-                    Then::Tell(Event::Fault(Fault::NothingToReturnTo))
+                    Then::Tell(Event::Fault(Fault::NothingToReturnTo.number()))
                 } else {
                     Then::Tell(Event::Return)
                 }

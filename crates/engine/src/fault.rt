@@ -1,25 +1,21 @@
-// Why a run stops before its list has ended.
+// Why a run stops before its list has ended, a word aside that could not be read: that is a WordFault of `words`.
 ghost use Rattle.std.specs.Prelude.{◌≡◌};
-ghost use Rattle.engine.specs.Fault.{fault_number, fault_of};
-
-use words::WordFault;
+ghost use Rattle.engine.specs.Fault.{fault_number};
 
 #[derive(Clone, Copy, PartialEq, Eq)]
 pub enum Fault {
     // The next word would start at or past the list's end.
-    PastTheEnd,
-    NoCommand,
-    NoMeaning,
-    NotDrawn,
-    CallsTooDeep,
-    NothingToReturnTo,
+    PastTheEnd = 10,
+    NotDrawn = 13,
+    CallsTooDeep = 14,
+    NothingToReturnTo = 15,
     // A CALL or JUMP to where no word starts.
-    NotAWord,
-    NothingBegun,
-    Undrawable,
-    LimitReached,
+    NotAWord = 16,
+    NothingBegun = 17,
+    Undrawable = 18,
+    LimitReached = 19,
     // A segment's end lies too far out.
-    EndTooFar,
+    EndTooFar = 20,
 }
 
 impl Fault {
@@ -27,30 +23,6 @@ impl Fault {
     pub fn number(self) -> u32
         ensures { result ≡ fault_number self }
     {
-        match self {
-            Fault::PastTheEnd => 10,
-            Fault::NoCommand => 11,
-            Fault::NoMeaning => 12,
-            Fault::NotDrawn => 13,
-            Fault::CallsTooDeep => 14,
-            Fault::NothingToReturnTo => 15,
-            Fault::NotAWord => 16,
-            Fault::NothingBegun => 17,
-            Fault::Undrawable => 18,
-            Fault::LimitReached => 19,
-            Fault::EndTooFar => 20,
-        }
-    }
-}
-
-// A word that could not be read stops the run.
-impl From<WordFault> for Fault {
-    ghost from_gives = { λ why fault. fault ≡ fault_of why };
-
-    fn from(why: WordFault) -> Fault {
-        match why {
-            WordFault::NoCommand => Fault::NoCommand,
-            WordFault::NoMeaning => Fault::NoMeaning,
-        }
+        self as u32
     }
 }

@@ -7,7 +7,6 @@ ghost use Rattle.engine.specs.Machine.{started, steps};
 use crate::command::{Obeyed, Then};
 use crate::context::Context;
 use crate::drawn::Primitive;
-use crate::fault::Fault;
 use crate::handles::Handles;
 use action::{Bitmap, End, Point, Rectangle, Segment};
 
@@ -42,7 +41,8 @@ pub enum Shape {
 }
 
 // What a word came to: nothing to tell, a context to save or to restore, a call to take or to return from, an action, the
-// list's end, or a fault.
+// list's end, or a fault by its number. (With a `Fault` in it, an event no longer stays in registers: a word costs five times
+// as many instructions.)
 #[derive(Clone, Copy)]
 pub enum Event {
     Quiet,
@@ -52,7 +52,7 @@ pub enum Event {
     Return,
     Draw(Shape),
     Ended,
-    Fault(Fault),
+    Fault(u32),
 }
 
 #[derive(Clone, Copy)]
@@ -91,7 +91,7 @@ impl Machine {
             }
             Err(fault) => Stepped {
                 machine: self,
-                event: Event::Fault(Fault::from(fault)),
+                event: Event::Fault(fault.number()),
             },
         }
     }

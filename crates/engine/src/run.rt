@@ -10,10 +10,10 @@ use crate::kept::{Engine, Kept};
 use crate::machine::{Event, Flags, Machine, Shape};
 use action::{Action, Clear, Drawing};
 
-// Why a run stops before its list has ended, and at which place.
+// A run that stops before its list has ended: the number of document 01's table, and the place that goes with it.
 #[derive(Clone, Copy)]
 pub struct Stop {
-    pub fault: Fault,
+    pub number: u32,
     pub place: u32,
 }
 
@@ -137,7 +137,7 @@ pub fn advance(
                 kept,
                 left,
                 Some(Stop {
-                    fault: Fault::PastTheEnd,
+                    number: Fault::PastTheEnd.number(),
                     place: at,
                 }),
             );
@@ -202,8 +202,8 @@ pub fn advance(
             Event::Ended => {
                 return over(now, kept, left, None);
             }
-            Event::Fault(fault) => {
-                return over(now, kept, left, Some(Stop { fault, place: at }));
+            Event::Fault(number) => {
+                return over(now, kept, left, Some(Stop { number, place: at }));
             }
         }
     }
@@ -213,7 +213,7 @@ pub fn advance(
         kept,
         left,
         Some(Stop {
-            fault: Fault::LimitReached,
+            number: Fault::LimitReached.number(),
             place: at,
         }),
     )

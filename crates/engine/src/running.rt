@@ -22,7 +22,7 @@ impl Ending {
     pub fn number(self) -> u32
         ensures { result ≡ number_told self.stop }
     {
-        self.stop.map_or(0, |stop| stop.fault.number())
+        self.stop.map_or(0, |stop| stop.number)
     }
 
     // The place that goes with the number.

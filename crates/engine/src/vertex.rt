@@ -37,7 +37,13 @@ fn unit(frac: u32) -> u32
     ensures value { result ≡ unit_of frac }
     ensures upper_bound { result ≤ 16 }
 {
-    1 << 4u32.saturating_sub(frac)
+    match frac {
+        0 => 16,
+        1 => 8,
+        2 => 4,
+        3 => 2,
+        _ => 1,
+    }
 }
 
 #[tactic(auto, unfolding(crate::specs::Vertex::placed2f))]
@@ -95,7 +101,7 @@ fn segment_event(from: End, v: Vertex, width: u32, primitive: u32) -> Event
     if drawn.is_short() {
         return Event::Draw(Shape::Segment(drawn));
     }
-    Event::Fault(Fault::EndTooFar)
+    Event::Fault(Fault::EndTooFar.number())
 }
 
 fn bitmap_event(handles: &Handles, v: Vertex, memory: u32) -> Event
@@ -104,7 +110,7 @@ fn bitmap_event(handles: &Handles, v: Vertex, memory: u32) -> Event
 {
     match handles.bitmap(v, memory) {
         Some(bitmap) => Event::Draw(Shape::Bitmap(bitmap)),
-        None => Event::Fault(Fault::Undrawable),
+        None => Event::Fault(Fault::Undrawable.number()),
     }
 }
 
@@ -136,7 +142,7 @@ impl Machine {
                     Event::Quiet
                 }
             },
-            None => Event::Fault(Fault::NothingBegun),
+            None => Event::Fault(Fault::NothingBegun.number()),
         };
         Stepped {
             machine: self,

@@ -38,7 +38,7 @@ ValidEvent m (e.Call to) = (m.depth < 4) × Aligned to
 ValidEvent m e.Return = Unit {0}
 ValidEvent m (e.Draw shape) = (c : Context) → Orderly (drawing_of c shape)
 ValidEvent m e.Ended = Unit {0}
-ValidEvent m (e.Fault fault) = Unit {0}
+ValidEvent m (e.Fault number) = Unit {0}
 
 abbrev pub ValidThen : Machine → Then → Type 0
 ValidThen m (t.Tell event) = ValidEvent m event

@@ -30,7 +30,7 @@ after-valid at c m (e.Call to) rest a o v = record { place = v.place; actions = 
 after-valid at c m e.Return rest a o v = record { place = v.place; actions = v.actions }
 after-valid at c m (e.Draw shape) rest a o v = record { place = v.place; actions = (o c, v.actions) }
 after-valid at c m e.Ended rest a o v = record { place = refl; actions = tt }
-after-valid at c m (e.Fault fault) rest a o v = record { place = a; actions = tt }
+after-valid at c m (e.Fault number) rest a o v = record { place = a; actions = tt }
 
 pub run-valid : (list : List ℕ) (memory n : ℕ) (x : State) → Valid x → ValidRan (run list memory n x)
 unfolding run

@@ -133,7 +133,7 @@ settled-valid (e.Call to) x o v = record { now = with_call x v.now to o.0 o.1; k
 settled-valid e.Return x o v = record { now = with-return x v.now; kept = v.kept }
 settled-valid (e.Draw shape) x o v = v
 settled-valid e.Ended x o v = v
-settled-valid (e.Fault fault) x o v = v
+settled-valid (e.Fault number) x o v = v
 
 pub next-valid : (list : List ℕ) (memory : ℕ) (x : State) → Valid x → Valid (next_of list memory x)
 next-valid list memory x v =

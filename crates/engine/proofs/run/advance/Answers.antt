@@ -1,3 +1,4 @@
+use Rattle.engine.specs.Fault.{fault_number}
 use mathlib.Core.Path.{◌≡◌, refl, ap, sym, ◌∙◌}
 use Prim.Native.Nat.{ℕ, ◌+◌, ◌-◌, ◌<◌}
 use native.Mathlib.Omega.{arith}
@@ -20,7 +21,7 @@ use Rattle.engine.proofs.run.advance.Goals.{then-is_kept, else-is_kept}
 -- The limit is used up: 19, wherever the next word lies.
 spent :
     (list : List ℕ) (memory : ℕ) (x : State) (allowed left : ℕ) → left ≡ 0 → (rest : Ran) →
-    more (allowed - left) (run list memory left x) ≡ then (allowed - left) (f.Over (stop_at fault.LimitReached (place_of x))) rest
+    more (allowed - left) (run list memory left x) ≡ then (allowed - left) (f.Over (stop_at (fault_number fault.LimitReached) (place_of x))) rest
 unfolding run then
 spent list memory x allowed left z rest =
     let k : allowed - 0 + 0 ≡ allowed - 0 = omega arith in
@@ -39,7 +40,7 @@ returns-then-list-wide c =
     let a = c.args in
     let l = c.loop-left in
     let x : State = record { engine = record { now = l.now; kept = l.kept }; handles = l.handles } in
-    rw c.over.ensures
+    rw (c.over.ensures, c.number.ensures)
     (record {
       spent = l.invariant.0;
       whole = l.invariant.1.1 ∙ ap (heard a.halt) (past a.list.now a.memory x a.allowed l.left (omega (arith, c.loop-left-test.true)) (omega (arith, c.if-list-wide.true, c.wide.ensures)) _);
@@ -203,7 +204,7 @@ returns c =
     let a = c.args in
     let l = c.loop-left in
     let x : State = record { engine = record { now = l.now; kept = l.kept }; handles = l.handles } in
-    rw c.over-2.ensures
+    rw (c.over-2.ensures, c.number-2.ensures)
     (record {
       spent = l.invariant.0;
       whole = l.invariant.1.1 ∙ ap (heard a.halt) (spent a.list.now a.memory x a.allowed l.left (omega (arith, c.loop-left-test.false)) _);
