@@ -7,12 +7,7 @@ use native.Mathlib.Omega.{arith}
 use lib.Dec.{leb}
 use lib.ListN.{length}
 use borrow.Author.Tests.{leb-true}
-use Rattle.truth.proofs.Bools.{answered-no, answered-yes, both-alike, both_true, never}
-use Rattle.std.specs.Prelude.{Option, Some, None, is_some}
-use Rattle.engine.specs.Fault.{fault_number}
-use Rattle.engine.specs.declared.fault.Fault.{Fault}
-use Rattle.engine.specs.declared.fault.Fault.TheVariants as fault
-use Rattle.engine.specs.declared.run.Stop.{Stop}
+use Rattle.truth.proofs.Bools.{answered-no, answered-yes, both-alike, both_true}
 use Rattle.engine.specs.Run.{Ran, number_told, run_of, most_list, most_memory}
 use Rattle.units.specs.Units.{tallest, widest}
 use Rattle.jokulvisp.specs.declared.check.JvAnswer.{JvAnswer}
@@ -22,36 +17,10 @@ pub check-once : (list : List ℕ) (memory width height limit : ℕ) (a b : JvAn
 unfolding CheckAnswer
 check-once list memory width height limit a b p q = p ∙ sym q
 
--- a fault's number is none that a list which draws has
-fault-counts : (f : Fault) → fault_number f ≡ 0 → ⊥
-fault-counts fault.PastTheEnd e = omega (arith, e)
-fault-counts fault.NoCommand e = omega (arith, e)
-fault-counts fault.NoMeaning e = omega (arith, e)
-fault-counts fault.NotDrawn e = omega (arith, e)
-fault-counts fault.CallsTooDeep e = omega (arith, e)
-fault-counts fault.NothingToReturnTo e = omega (arith, e)
-fault-counts fault.NotAWord e = omega (arith, e)
-fault-counts fault.NothingBegun e = omega (arith, e)
-fault-counts fault.Undrawable e = omega (arith, e)
-fault-counts fault.LimitReached e = omega (arith, e)
-fault-counts fault.EndTooFar e = omega (arith, e)
-
-pub stopped-counts : (s : Option Stop) → true ≡ is_some s → number_told s ≡ 0 → ⊥
-stopped-counts (Some stop) e z = fault-counts stop.fault z
-stopped-counts None e z = never (sym e)
-
-pub none-counts : (s : Option Stop) → false ≡ is_some s → number_told s ≡ 0
-none-counts (Some stop) e = never e
-none-counts None e = refl
-
 -- a refusal carries its number and nothing else
 pub told-refused : (n : ℕ) (r : Ran) → (n ≡ 0 → ⊥) → unless_refused n r ≡ refused n
 told-refused zero r h = absurd (h refl)
 told-refused (suc n) r h = refl
-
--- the answer of a list that is refused, and of one that is run
-pub refused-answer : (n m : ℕ) (r : Ran) → n ≡ m → (m ≡ 0 → ⊥) → refused m ≡ unless_refused n r
-refused-answer n m r e z = sym (rw e (told-refused m r z))
 
 told-done : (n : ℕ) (r : Ran) → (unless_refused n r).number ≡ 0 → n ≡ 0
 told-done zero r e = refl

@@ -12,11 +12,11 @@ fn answer_runs(old: &Screen, new: &Screen) -> JvAnswer
     ensures { result ≡ unless_faulty 1 (run_in old.now) (unless_faulty 2 (run_in new.now) (repainted 0)) }
 {
     let former = old.finish();
-    if former.stop.is_some() {
+    if former.number() != 0 {
         return JvAnswer::ended(1, former);
     }
     let latter = new.finish();
-    if latter.stop.is_some() {
+    if latter.number() != 0 {
         return JvAnswer::ended(2, latter);
     }
     JvAnswer {

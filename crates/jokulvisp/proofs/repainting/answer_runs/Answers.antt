@@ -1,16 +1,15 @@
-use mathlib.Core.Path.{◌∙◌}
-use Rattle.jokulvisp.proofs.Checking.{none-counts, stopped-counts}
+use mathlib.Core.Path.{◌∙◌, sym}
 use Rattle.jokulvisp.proofs.Repainted.{faulty, faultless}
 use Rattle.jokulvisp.proofs.repainting.answer_runs.Goals as goal
 
-pub returns-then-is_some : goal.returns-then-is_some
-returns-then-is_some c =
-    c.ended.ensures ∙ faulty 1 _ _ c.finish-former.ensures (stopped-counts _ c.if-is_some.ensures)
+pub returns-then-number-ne0 : goal.returns-then-number-ne0
+returns-then-number-ne0 c =
+    c.ended.ensures ∙ faulty 1 _ _ c.finish-former.ensures (λ z. c.if-number-ne0.true (c.number.ensures ∙ z))
 
-pub returns-then-is_some-2 : goal.returns-then-is_some-2
-returns-then-is_some-2 c =
-    c.ended-then-is_some-2.ensures ∙ faulty 2 _ _ c.finish-latter.ensures (stopped-counts _ c.if-is_some-2.ensures) ∙ faultless 1 _ _ c.finish-former.ensures (none-counts _ c.if-is_some.ensures)
+pub returns-then-number-ne0-2 : goal.returns-then-number-ne0-2
+returns-then-number-ne0-2 c =
+    c.ended-then-number-ne0-2.ensures ∙ faulty 2 _ _ c.finish-latter.ensures (λ z. c.if-number-ne0-2.true (c.number-2.ensures ∙ z)) ∙ faultless 1 _ _ c.finish-former.ensures (sym c.number.ensures ∙ c.if-number-ne0.false)
 
 pub returns : goal.returns
 returns c =
-    faultless 2 _ _ c.finish-latter.ensures (none-counts _ c.if-is_some-2.ensures) ∙ faultless 1 _ _ c.finish-former.ensures (none-counts _ c.if-is_some.ensures)
+    faultless 2 _ _ c.finish-latter.ensures (sym c.number-2.ensures ∙ c.if-number-ne0-2.false) ∙ faultless 1 _ _ c.finish-former.ensures (sym c.number.ensures ∙ c.if-number-ne0.false)
