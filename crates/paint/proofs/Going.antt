@@ -1,8 +1,9 @@
 -- A run from one action to the next.
-use mathlib.Core.Bool.{true, false}
+use mathlib.Core.Bool.{true}
 use mathlib.Core.List.{List, [], ◌∷◌, ◌++◌, append_assoc}
 use mathlib.Core.Path.{◌≡◌, refl, ◌∙◌, ap}
-use Prim.Native.Nat.{ℕ, ◌<◌, ◌≤◌}
+use Prim.Native.Nat.{ℕ, ◌+◌, ◌<◌}
+use Rattle.std.specs.Prelude.{Option, Some, None}
 use Rattle.action.specs.declared.Action.{Action}
 use Rattle.engine.specs.Advance.{Advances, Spent, heard, then}
 use Rattle.engine.specs.Run.{Ran, run}
@@ -10,9 +11,17 @@ use Rattle.engine.specs.declared.kept.Engine.{Engine}
 use Rattle.engine.specs.declared.run.Advanced.{Advanced}
 use Rattle.engine.specs.declared.run.Find.TheVariants as f
 use Rattle.engine.specs.declared.run.Stop.{Stop}
-use Rattle.paint.specs.Actions.{AllBands, Keeps, kept_up_to, most_kept}
+use Rattle.paint.specs.Actions.{AllBands, Keeps, kept_up_to}
 use Rattle.paint.specs.declared.kept.Kept.{Kept}
 use Rattle.paint.proofs.Folds.{keeps-list}
+
+value : Option ℕ → ℕ
+value (Some n) = n
+value None = 0
+
+pub some-same : {k n : ℕ} → Some k ≡ Some n → k ≡ n
+unfolding value
+some-same e = ap value e
 
 -- the actions that a run gives from a state on
 abbrev pub actions_from : List ℕ → ℕ → ℕ → Engine → List ℕ → List Action
@@ -39,15 +48,13 @@ module _ {list : List ℕ} {memory left : ℕ} {engine : Engine} {handles after 
   fewer action e = (rw e at went.spent).1
 
 -- what holds at each turn while actions are gathered
-pub record Gathering (list : List ℕ) (memory : ℕ) (whole : List Action) (handles : List ℕ) (k : Kept) (engine : Engine) (left : ℕ) : Type 0 where
-  pub still : k.all ≡ false
-  pub room : k.count ≤ most_kept
-  pub banded : AllBands k.numbers k.places k.bands k.count
-  pub parts : whole ≡ kept_up_to k.numbers k.places k.count ++ actions_from list memory left engine handles
+pub record Gathering (list : List ℕ) (memory : ℕ) (whole : List Action) (handles : List ℕ) (kept : Kept) (engine : Engine) (left k : ℕ) : Type 0 where
+  pub banded : AllBands kept.numbers kept.places kept.bands k
+  pub parts : whole ≡ kept_up_to kept.numbers kept.places k ++ actions_from list memory left engine handles
 
 -- one action more is kept
 pub joined :
-    {whole : List Action} {action : Action} {rest rest' : List Action} {old now : Kept} →
-    whole ≡ kept_up_to old.numbers old.places old.count ++ rest → rest ≡ action ∷ rest' → Keeps action old now →
-    whole ≡ kept_up_to now.numbers now.places now.count ++ rest'
+    {whole : List Action} {action : Action} {rest rest' : List Action} {k : ℕ} {old now : Kept} →
+    whole ≡ kept_up_to old.numbers old.places k ++ rest → rest ≡ action ∷ rest' → Keeps action k old now →
+    whole ≡ kept_up_to now.numbers now.places (k + 1) ++ rest'
 joined e n keeps = e ∙ rw (n, keeps-list keeps, append_assoc)

@@ -10,14 +10,14 @@ use shape::reach::Band;
 
 pub const MOST: usize = 1024;
 
-// The first `count` actions, each with the rows that it can reach, and whether these are all of the list.
+// The first actions of a list, each with the rows that it can reach. `count` is how many the list has, None where they
+// are more than there is room for.
 #[derive(Drop)]
 pub struct Kept {
     pub numbers: [u32; store::NUMBERS * MOST],
     pub places: [u64; store::PLACES * MOST],
     pub bands: [Band; MOST],
-    pub count: usize,
-    pub all: bool,
+    pub count: Option<usize>,
 }
 
 impl Kept {
@@ -26,19 +26,17 @@ impl Kept {
             numbers: [0; store::NUMBERS * MOST],
             places: [0; store::PLACES * MOST],
             bands: [Band { top: 0, bottom: 0 }; MOST],
-            count: 0,
-            all: false,
+            count: None,
         }
     }
 
-    fn keep(&mut self, action: Action)
-        requires { self.old.count < most_kept }
-        ensures { Keeps action self.old self.new }
+    // Keeps an action as the k-th.
+    fn keep(&mut self, action: Action, k: usize)
+        requires { k < most_kept }
+        ensures { Keeps action k self.old self.new }
     {
-        let k = self.count;
         self.bands[k] = reach::rows_of(action);
         store::put(action, k, &mut self.numbers, &mut self.places);
-        self.count = k + 1;
     }
 
     // Runs the list from its start and keeps its actions, as many as there is room for.
@@ -49,19 +47,18 @@ impl Kept {
         let mut handles = [0; engine::SETTINGS];
         let mut engine = Engine::start();
         let mut left = limit;
-        self.count = 0;
-        self.all = false;
-        while self.count < MOST {
+        for k in 0..MOST {
             let advanced = engine::advance(engine, &mut handles, list, memory, left, true);
             left = advanced.left;
             engine = advanced.engine;
             match advanced.find {
-                Find::Drew(action) => self.keep(action),
+                Find::Drew(action) => self.keep(action, k),
                 Find::Over(_) => {
-                    self.all = true;
+                    self.count = Some(k);
                     return;
                 }
             }
         }
+        self.count = None;
     }
 }
