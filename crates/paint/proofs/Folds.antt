@@ -78,13 +78,12 @@ kept_same numbers places numbers' places' (suc n) same =
     rw (kept_same numbers places numbers' places' n (λ j h. same j (omega arith)), same n (omega arith))
 
 -- one action more was kept
-module _ {action : Action} {old now : Kept} (keeps : Keeps action old now) where
-  pub keeps-list : kept_up_to now.numbers now.places now.count ≡ kept_up_to old.numbers old.places old.count ++ (action ∷ [])
-  unfolding kept_up_to
-  keeps-list = rw (keeps.counted, kept_same old.numbers old.places now.numbers now.places old.count keeps.others, keeps.kept)
+module _ {action : Action} {k : ℕ} {old now : Kept} (keeps : Keeps action k old now) where
+  pub keeps-list : kept_up_to now.numbers now.places (k + 1) ≡ kept_up_to old.numbers old.places k ++ (action ∷ [])
+  keeps-list = rw (kept_more, kept_same old.numbers old.places now.numbers now.places k keeps.others, keeps.kept)
 
-  pub keeps-bands : AllBands old.numbers old.places old.bands old.count → AllBands now.numbers now.places now.bands now.count
+  pub keeps-bands : AllBands old.numbers old.places old.bands k → AllBands now.numbers now.places now.bands (k + 1)
   keeps-bands all j h =
-      ⊎_elim (λ (e : j ≡ old.count). rw e keeps.banded)
-      (λ (b : j < old.count). rw (keeps.others j b, keeps.other_bands j b) (all j b))
-      (eq-or-lt_of_le (omega (arith, keeps.counted)))
+      ⊎_elim (λ (e : j ≡ k). rw e keeps.banded)
+      (λ (b : j < k). rw (keeps.others j b, keeps.other_bands j b) (all j b))
+      (eq-or-lt_of_le (omega arith))

@@ -1,10 +1,10 @@
 -- The bytes of a row are those of its pixels.
-use mathlib.Core.List.{List, [], ◌∷◌, ◌++◌}
+use mathlib.Core.List.{List, append_assoc}
 use mathlib.Core.Path.{◌≡◌, refl, ◌∙◌, ap}
 use Prim.Native.Nat.{ℕ, zero, suc, ◌+◌, ◌*◌, ◌<◌, ◌≤◌}
-use native.Mathlib.Nat.{not-suc-le-zero, le_of_suc-le-suc}
 use native.Mathlib.Numerals.{add-one, add-two}
 use native.Mathlib.Omega.{arith}
+use lib.Seq.{take-suc}
 use lib.ListN.{length, get_or, take, replicate, length-append}
 use Rattle.action.specs.declared.Action.{Action}
 use Rattle.pixel.specs.declared.Pixel.{Pixel}
@@ -25,20 +25,6 @@ unfolding pixel_in
 blank_at a b c d x =
     same-pixel _ _ (zero-at a (3 * x)) (zero-at a (3 * x + 1)) (zero-at a (3 * x + 2)) (zero-at c x) (zero-at d x) (zero-at b x)
 
-take-one : (l : List ℕ) (m : ℕ) → m < length l → take (suc m) l ≡ take m l ++ (get_or l m 0 ∷ [])
-take-one [] m h = absurd (not-suc-le-zero h)
-take-one (a ∷ l) zero h = refl
-take-one (a ∷ l) (suc m) h = ap (λ (t : List ℕ). a ∷ t) (take-one l m (le_of_suc-le-suc h))
-
-take-three :
-    (l : List ℕ) (m : ℕ) → suc (suc m) < length l →
-    take (suc (suc (suc m))) l ≡ take m l ++ (get_or l m 0 ∷ get_or l (suc m) 0 ∷ get_or l (suc (suc m)) 0 ∷ [])
-take-three [] m h = absurd (not-suc-le-zero h)
-take-three (a ∷ []) m h = absurd (not-suc-le-zero (le_of_suc-le-suc h))
-take-three (a ∷ b ∷ []) m h = absurd (not-suc-le-zero (le_of_suc-le-suc (le_of_suc-le-suc h)))
-take-three (a ∷ b ∷ c ∷ l) zero h = refl
-take-three (a ∷ b ∷ c ∷ l) (suc m) h = ap (λ (t : List ℕ). a ∷ t) (take-three (b ∷ c ∷ l) m (le_of_suc-le-suc h))
-
 -- the bytes of a row's first pixels
 module _ (row : Row) where
   pub colours-laid : (n : ℕ) → 3 * n ≤ length row.colours → take (3 * n) row.colours ≡ colours_of (pixels row) n
@@ -46,12 +32,13 @@ module _ (row : Row) where
   colours-laid zero h = refl
   colours-laid (suc n) h =
       let e : 3 * suc n ≡ suc (suc (suc (3 * n))) = omega arith in
-      rw (e, take-three row.colours (3 * n) (omega arith), colours-laid n (omega arith), add-one, add-two)
+      rw
+      (e, take-suc row.colours (suc (suc (3 * n))) 0 (omega arith), take-suc row.colours (suc (3 * n)) 0 (omega arith), take-suc row.colours (3 * n) 0 (omega arith), append_assoc, append_assoc, colours-laid n (omega arith), add-one, add-two)
 
   pub tags-laid : (n : ℕ) → n ≤ length row.tags → take n row.tags ≡ tags_of (pixels row) n
   unfolding tags_of pixel_in
   tags-laid zero h = refl
-  tags-laid (suc n) h = rw (take-one row.tags n (omega arith), tags-laid n (omega arith))
+  tags-laid (suc n) h = rw (take-suc row.tags n 0 (omega arith), tags-laid n (omega arith))
 
 pub colours-long : (f : ℕ → Pixel) (width : ℕ) → length (colours_of f width) ≡ 3 * width
 unfolding colours_of

@@ -1,5 +1,5 @@
 -- A row swept column by column.
-use mathlib.Core.Bool.{Bool, true, false, cond, ◌&&◌}
+use mathlib.Core.Bool.{Bool, true, false, cond, and-false}
 use mathlib.Core.Logic.{◌⊎◌, inl, inr, ⊎_elim}
 use mathlib.Core.List.{List}
 use mathlib.Core.Path.{◌≡◌, refl, sym, ◌∙◌, ap}
@@ -95,10 +95,6 @@ module _ (chord : Chord) (step : ℕ → Pixel → Pixel) {x : ℕ} (old : ℕ �
 -- what was asked about a column
 pub asked-of : (chord : Chord) {x : ℕ} {p : Pixels} {b v : Bool} → PixelOf x p → b ≡ holds_in chord p → b ≡ v → holds_in chord (pixel_at x) ≡ v
 asked-of chord at asked e = ap (holds_in chord) (sym (pixels-at at)) ∙ sym asked ∙ e
-
-and-false : (b : Bool) → (b && false) ≡ false
-and-false true = refl
-and-false false = refl
 
 -- the columns that a chord has, swept, are those that the action reaches
 module _ (memory : List ℕ) (action : Action) (q : Pixels) (width : ℕ) (chord : Chord) (old now : ℕ → Pixel) where

@@ -1,6 +1,7 @@
 -- The drawing actions of a list as the painter keeps them. No sentence of document 01 stands behind these contracts:
 -- they say that the actions read back are those of the run.
-use Rattle.std.specs.Prelude.{true, List, [], ◌∷◌, ◌++◌, ◌≡◌, ℕ, zero, suc, ◌<◌, ◌≤◌, get_or}
+use Rattle.std.specs.Prelude.{List, [], ◌∷◌, ◌++◌, ◌≡◌, ℕ, zero, suc, ◌<◌, ◌≤◌, get_or}
+use Rattle.std.specs.Option.{ForSome}
 use Rattle.action.specs.declared.Action.{Action}
 use Rattle.shape.specs.Reach.{Bands}
 use Rattle.shape.specs.declared.Rows.{Rows}
@@ -26,17 +27,19 @@ BandAt numbers places bands k = Bands (kept_at numbers places k) (band_at bands 
 abbrev pub AllBands : List ℕ → List ℕ → List (Rows ℕ) → ℕ → Type 0
 AllBands numbers places bands count = (k : ℕ) → k < count → BandAt numbers places bands k
 
--- an action is kept as the next with its band, and those before it stay
-pub record Keeps (action : Action) (old now : Kept) : Type 0 where
-  pub counted : now.count ≡ suc old.count
-  pub still : now.all ≡ old.all
-  pub kept : kept_at now.numbers now.places old.count ≡ action
-  pub others : (j : ℕ) → j < old.count → kept_at now.numbers now.places j ≡ kept_at old.numbers old.places j
-  pub banded : BandAt now.numbers now.places now.bands old.count
-  pub other_bands : (j : ℕ) → j < old.count → band_at now.bands j ≡ band_at old.bands j
+-- an action is kept as the k-th with its band, and those before it stay
+pub record Keeps (action : Action) (k : ℕ) (old now : Kept) : Type 0 where
+  pub kept : kept_at now.numbers now.places k ≡ action
+  pub others : (j : ℕ) → j < k → kept_at now.numbers now.places j ≡ kept_at old.numbers old.places j
+  pub banded : BandAt now.numbers now.places now.bands k
+  pub other_bands : (j : ℕ) → j < k → band_at now.bands j ≡ band_at old.bands j
 
--- where there was room for all actions of the list, those that are kept are they
-pub record Gathers (actions : List Action) (k : Kept) : Type 0 where
-  pub whole : k.all ≡ true → actions ≡ kept_up_to k.numbers k.places k.count
-  pub banded : AllBands k.numbers k.places k.bands k.count
-  pub room : k.count ≤ most_kept
+-- those that are kept are all actions of the list
+pub record KeepsAll (actions : List Action) (kept : Kept) (count : ℕ) : Type 0 where
+  pub whole : actions ≡ kept_up_to kept.numbers kept.places count
+  pub banded : AllBands kept.numbers kept.places kept.bands count
+  pub room : count ≤ most_kept
+
+-- the same where there was room for all
+abbrev pub Gathers : List Action → Kept → Type 0
+Gathers actions kept = ForSome kept.count (KeepsAll actions kept)

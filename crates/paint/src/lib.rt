@@ -5,7 +5,7 @@
 ghost use Rattle.std.specs.Prelude.{Bool, ℕ, ◌≡◌, ◌<◌, ◌≤◌, ◌+◌, ◌*◌, length};
 ghost use Rattle.engine.specs.Running.{actions_in};
 ghost use Rattle.units.specs.Units.{pixel_at, tallest, widest};
-ghost use Rattle.paint.specs.Actions.{kept_up_to};
+ghost use Rattle.paint.specs.Actions.{KeepsAll};
 ghost use Rattle.paint.specs.Picture.{colours_from, tags_from, patched, row_colours, row_tags};
 ghost use Rattle.paint.specs.Runs.{DrawnAll, HoldRows, Ready, Tells, pixels, wanted_rows};
 
@@ -27,19 +27,20 @@ struct Painter<'a> {
 }
 
 impl<'a> Painter<'a> {
-    // Draws the kept actions into row y, each that can reach it.
-    fn draw_kept(&self, y: u32, row: &mut Row)
-        requires { y < tallest }
+    // Draws the kept actions, which are all, into row y, each that can reach it.
+    fn draw_kept(&self, count: usize, y: u32, row: &mut Row)
+        requires all { KeepsAll (actions_in self.now.screen.now) self.now.kept.now count }
+        requires y_lt_tallest { y < tallest }
         ensures { DrawnAll
             self.now.screen.now.memory.now
-            (kept_up_to self.now.kept.now.numbers self.now.kept.now.places self.now.kept.now.count)
+            (actions_in self.now.screen.now)
             self.now.width
             (pixel_at y)
             (pixels row.old)
             (pixels row.new) }
     {
         let kept = self.kept;
-        for k in 0..kept.count {
+        for k in 0..count {
             let band = kept.bands[k];
             if (band.top <= y) & (y < band.bottom) {
                 let action = store::get(k, &kept.numbers, &kept.places);
@@ -80,10 +81,9 @@ impl<'a> Painter<'a> {
             y }
     {
         let mut row = Row::blank();
-        if self.kept.all {
-            self.draw_kept(y, &mut row);
-        } else {
-            self.draw_list(y, &mut row);
+        match self.kept.count {
+            Some(count) => self.draw_kept(count, y, &mut row),
+            None => self.draw_list(y, &mut row),
         }
         row.lay(picture, tags);
     }

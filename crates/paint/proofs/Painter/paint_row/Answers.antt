@@ -4,16 +4,16 @@ use Rattle.paint.specs.Runs.{DrawnAll, pixels}
 use Rattle.units.specs.Units.{pixel_at}
 use mathlib.Core.Path.{◌∙◌}
 use Rattle.paint.proofs.Painter.paint_row.Goals as goal
-use Rattle.paint.proofs.Painter.paint_row.Goals.{then-self, else-self}
+use Rattle.paint.proofs.Painter.paint_row.Goals.{in-None, in-Some}
+
+pub draw_kept-requires-clause-all : goal.draw_kept-requires-clause-all
+draw_kept-requires-clause-all c = c.args.self.now.ready.1 _ c.in-Some.is
 
 pub returns : goal.returns
 returns c =
     let s = c.args.self.now in
-    let drawn : DrawnAll s.screen.now.memory.now (actions_in s.screen.now) s.width (pixel_at c.args.y) (pixels c.blank-row.result) (pixels c.if-self.row) =
-    elim c.if-self.branch [
-      | then-self w ↦ rw (w.row-is, s.ready.1.whole w.if-self.true) w.draw_kept.ensures
-      | else-self w ↦ rw w.row-is w.draw_list.ensures
-    ]
+    let drawn : DrawnAll s.screen.now.memory.now (actions_in s.screen.now) s.width (pixel_at c.args.y) (pixels c.blank-row.result) (pixels c.match-self.row) =
+    elim c.match-self.branch [ in-Some w ↦ rw w.row-is w.draw_kept.ensures | in-None w ↦ rw w.row-is w.draw_list.ensures ]
     in
     let at = drawn-row _ _ _ _ _ _ c.blank-row.ensures drawn in
     record {
