@@ -1,16 +1,17 @@
 // An action out of its own numbers and places.
-ghost use Rattle.std.specs.Prelude.{◌≡◌, length};
-ghost use Rattle.store.specs.Reading.{numbers_each, places_each, masks_of, clear_of, ink_of, scissor_of, point_of, rectangle_of, bitmap_of, segment_of, drawing_of, action_of};
+ghost use Rattle.std.specs.Prelude.{◌≡◌};
+ghost use Rattle.store.specs.Reading.{masks_of, clear_of, ink_of, scissor_of, point_of, rectangle_of, bitmap_of, segment_of, drawing_of, action_of};
 
 use action::{
     Action, AlphaTest, Area, Bitmap, Blend, Clear, ClearValues, Colour, Drawing, End, Factor,
     Format, Ink, Masks, Point, Rectangle, Segment, StencilAction, StencilActions, StencilTest,
     Test,
 };
+use crate::{BITMAP, CLEAR, NUMBERS, PLACES, POINT, RECTANGLE};
 use units::{LengthInSixteenths, Pixels, Sixteenths};
 
-fn masks_in(numbers: &[u32]) -> Masks
-    requires { length numbers.now ≡ numbers_each }
+#[tactic(auto, unfolding(crate::specs::Reading::masks_of))]
+fn masks_in(numbers: &[u32; NUMBERS]) -> Masks
     ensures { result ≡ masks_of numbers.now }
 {
     Masks {
@@ -23,65 +24,59 @@ fn masks_in(numbers: &[u32]) -> Masks
     }
 }
 
-fn clear_in(numbers: &[u32]) -> Clear
-    requires { length numbers.now ≡ numbers_each }
+#[tactic(auto, unfolding(crate::specs::Reading::clear_of))]
+fn clear_in(numbers: &[u32; NUMBERS]) -> Clear
     ensures { result ≡ clear_of numbers.now }
 {
-    let values = ClearValues {
-        red: numbers[10],
-        green: numbers[11],
-        blue: numbers[12],
-        alpha: numbers[13],
-        stencil: numbers[14],
-        tag: numbers[15],
-    };
     Clear {
         colour: numbers[7],
         stencil: numbers[8],
         tag: numbers[9],
-        values: values,
+        values: ClearValues {
+            red: numbers[10],
+            green: numbers[11],
+            blue: numbers[12],
+            alpha: numbers[13],
+            stencil: numbers[14],
+            tag: numbers[15],
+        },
     }
 }
 
-fn ink_in(numbers: &[u32]) -> Ink
-    requires { length numbers.now ≡ numbers_each }
+#[tactic(auto, unfolding(crate::specs::Reading::ink_of))]
+fn ink_in(numbers: &[u32; NUMBERS]) -> Ink
     ensures { result ≡ ink_of numbers.now }
 {
-    let colour = Colour {
-        red: numbers[7],
-        green: numbers[8],
-        blue: numbers[9],
-        alpha: numbers[10],
-    };
-    let alpha = AlphaTest {
-        test: Test::from(numbers[11]),
-        reference: numbers[12],
-    };
-    let stencil = StencilTest {
-        test: Test::from(numbers[13]),
-        reference: numbers[14],
-        mask: numbers[15],
-    };
-    let actions = StencilActions {
-        fail: StencilAction::from(numbers[16]),
-        pass: StencilAction::from(numbers[17]),
-    };
-    let blend = Blend {
-        source: Factor::from(numbers[18]),
-        target: Factor::from(numbers[19]),
-    };
     Ink {
-        colour: colour,
-        alpha: alpha,
-        stencil: stencil,
-        actions: actions,
-        blend: blend,
+        colour: Colour {
+            red: numbers[7],
+            green: numbers[8],
+            blue: numbers[9],
+            alpha: numbers[10],
+        },
+        alpha: AlphaTest {
+            test: Test::from(numbers[11]),
+            reference: numbers[12],
+        },
+        stencil: StencilTest {
+            test: Test::from(numbers[13]),
+            reference: numbers[14],
+            mask: numbers[15],
+        },
+        actions: StencilActions {
+            fail: StencilAction::from(numbers[16]),
+            pass: StencilAction::from(numbers[17]),
+        },
+        blend: Blend {
+            source: Factor::from(numbers[18]),
+            target: Factor::from(numbers[19]),
+        },
         tag: numbers[20],
     }
 }
 
-fn scissor_in(places: &[u64]) -> Area
-    requires { length places.now ≡ places_each }
+#[tactic(auto, unfolding(crate::specs::Reading::scissor_of))]
+fn scissor_in(places: &[u64; PLACES]) -> Area
     ensures { result ≡ scissor_of places.now }
 {
     Area {
@@ -92,8 +87,8 @@ fn scissor_in(places: &[u64]) -> Area
     }
 }
 
-fn point_in(numbers: &[u32], places: &[u64]) -> Point
-    requires { (length numbers.now ≡ numbers_each) × (length places.now ≡ places_each) }
+#[tactic(auto, unfolding(crate::specs::Reading::point_of))]
+fn point_in(numbers: &[u32; NUMBERS], places: &[u64; PLACES]) -> Point
     ensures { result ≡ point_of numbers.now places.now }
 {
     Point {
@@ -103,8 +98,8 @@ fn point_in(numbers: &[u32], places: &[u64]) -> Point
     }
 }
 
-fn rectangle_in(numbers: &[u32], places: &[u64]) -> Rectangle
-    requires { (length numbers.now ≡ numbers_each) × (length places.now ≡ places_each) }
+#[tactic(auto, unfolding(crate::specs::Reading::rectangle_of))]
+fn rectangle_in(numbers: &[u32; NUMBERS], places: &[u64; PLACES]) -> Rectangle
     ensures { result ≡ rectangle_of numbers.now places.now }
 {
     Rectangle {
@@ -116,18 +111,17 @@ fn rectangle_in(numbers: &[u32], places: &[u64]) -> Rectangle
     }
 }
 
-fn bitmap_in(numbers: &[u32], places: &[u64]) -> Bitmap
-    requires { (length numbers.now ≡ numbers_each) × (length places.now ≡ places_each) }
+#[tactic(auto, unfolding(crate::specs::Reading::bitmap_of))]
+fn bitmap_in(numbers: &[u32; NUMBERS], places: &[u64; PLACES]) -> Bitmap
     ensures { result ≡ bitmap_of numbers.now places.now }
 {
-    let area = Area {
-        left: Pixels(places[4]),
-        top: Pixels(places[5]),
-        right: Pixels(places[6]),
-        bottom: Pixels(places[7]),
-    };
     Bitmap {
-        area: area,
+        area: Area {
+            left: Pixels(places[4]),
+            top: Pixels(places[5]),
+            right: Pixels(places[6]),
+            bottom: Pixels(places[7]),
+        },
         start: numbers[21],
         format: Format::from(numbers[22]),
         stride: numbers[23],
@@ -135,49 +129,39 @@ fn bitmap_in(numbers: &[u32], places: &[u64]) -> Bitmap
     }
 }
 
-fn segment_in(numbers: &[u32], places: &[u64]) -> Segment
-    requires { (length numbers.now ≡ numbers_each) × (length places.now ≡ places_each) }
+#[tactic(auto, unfolding(crate::specs::Reading::segment_of))]
+fn segment_in(numbers: &[u32; NUMBERS], places: &[u64; PLACES]) -> Segment
     ensures { result ≡ segment_of numbers.now places.now }
 {
-    let from = End {
-        x: Sixteenths(places[4]),
-        y: Sixteenths(places[5]),
-    };
-    let to = End {
-        x: Sixteenths(places[6]),
-        y: Sixteenths(places[7]),
-    };
     Segment {
-        from: from,
-        to: to,
+        from: End {
+            x: Sixteenths(places[4]),
+            y: Sixteenths(places[5]),
+        },
+        to: End {
+            x: Sixteenths(places[6]),
+            y: Sixteenths(places[7]),
+        },
         width: LengthInSixteenths(numbers[21]),
         primitive: numbers[22],
     }
 }
 
-fn drawing_in(numbers: &[u32], places: &[u64]) -> Drawing
-    requires { (length numbers.now ≡ numbers_each) × (length places.now ≡ places_each) }
+#[tactic(auto, unfolding(crate::specs::Reading::drawing_of))]
+fn drawing_in(numbers: &[u32; NUMBERS], places: &[u64; PLACES]) -> Drawing
     ensures { result ≡ drawing_of numbers.now places.now }
 {
-    let kind = numbers[6];
-    if kind == 0 {
-        return Drawing::Clear(clear_in(numbers));
+    match numbers[6] {
+        CLEAR => Drawing::Clear(clear_in(numbers)),
+        POINT => Drawing::Point(point_in(numbers, places), ink_in(numbers)),
+        RECTANGLE => Drawing::Rectangle(rectangle_in(numbers, places), ink_in(numbers)),
+        BITMAP => Drawing::Bitmap(bitmap_in(numbers, places), ink_in(numbers)),
+        _ => Drawing::Segment(segment_in(numbers, places), ink_in(numbers)),
     }
-    let ink = ink_in(numbers);
-    if kind == 1 {
-        return Drawing::Point(point_in(numbers, places), ink);
-    }
-    if kind == 2 {
-        return Drawing::Rectangle(rectangle_in(numbers, places), ink);
-    }
-    if kind == 3 {
-        return Drawing::Bitmap(bitmap_in(numbers, places), ink);
-    }
-    Drawing::Segment(segment_in(numbers, places), ink)
 }
 
-pub fn action_in(numbers: &[u32], places: &[u64]) -> Action
-    requires { (length numbers.now ≡ numbers_each) × (length places.now ≡ places_each) }
+#[tactic(auto, unfolding(crate::specs::Reading::action_of))]
+pub fn action_in(numbers: &[u32; NUMBERS], places: &[u64; PLACES]) -> Action
     ensures { result ≡ action_of numbers.now places.now }
 {
     Action {
