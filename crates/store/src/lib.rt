@@ -23,9 +23,13 @@ pub const PLACES: usize = 8;
 
 // The kinds.
 const CLEAR: u32 = 0;
+
 const POINT: u32 = 1;
+
 const RECTANGLE: u32 = 2;
+
 const BITMAP: u32 = 3;
+
 const SEGMENT: u32 = 4;
 
 // Keeps an action as the k-th.

@@ -2,12 +2,12 @@
 ghost use Rattle.std.specs.Prelude.{◌≡◌};
 ghost use Rattle.store.specs.Reading.{masks_of, clear_of, ink_of, scissor_of, point_of, rectangle_of, bitmap_of, segment_of, drawing_of, action_of};
 
+use crate::{BITMAP, CLEAR, NUMBERS, PLACES, POINT, RECTANGLE};
 use action::{
     Action, AlphaTest, Area, Bitmap, Blend, Clear, ClearValues, Colour, Drawing, End, Factor,
     Format, Ink, Masks, Point, Rectangle, Segment, StencilAction, StencilActions, StencilTest,
     Test,
 };
-use crate::{BITMAP, CLEAR, NUMBERS, PLACES, POINT, RECTANGLE};
 use units::{LengthInSixteenths, Pixels, Sixteenths};
 
 #[tactic(auto, unfolding(crate::specs::Reading::masks_of))]
@@ -147,16 +147,17 @@ fn segment_in(numbers: &[u32; NUMBERS], places: &[u64; PLACES]) -> Segment
     }
 }
 
+// Each arm returns, since a value of the match would be copied once more.
 #[tactic(auto, unfolding(crate::specs::Reading::drawing_of))]
 fn drawing_in(numbers: &[u32; NUMBERS], places: &[u64; PLACES]) -> Drawing
     ensures { result ≡ drawing_of numbers.now places.now }
 {
     match numbers[6] {
-        CLEAR => Drawing::Clear(clear_in(numbers)),
-        POINT => Drawing::Point(point_in(numbers, places), ink_in(numbers)),
-        RECTANGLE => Drawing::Rectangle(rectangle_in(numbers, places), ink_in(numbers)),
-        BITMAP => Drawing::Bitmap(bitmap_in(numbers, places), ink_in(numbers)),
-        _ => Drawing::Segment(segment_in(numbers, places), ink_in(numbers)),
+        CLEAR => return Drawing::Clear(clear_in(numbers)),
+        POINT => return Drawing::Point(point_in(numbers, places), ink_in(numbers)),
+        RECTANGLE => return Drawing::Rectangle(rectangle_in(numbers, places), ink_in(numbers)),
+        BITMAP => return Drawing::Bitmap(bitmap_in(numbers, places), ink_in(numbers)),
+        _ => return Drawing::Segment(segment_in(numbers, places), ink_in(numbers)),
     }
 }
 

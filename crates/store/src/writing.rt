@@ -2,8 +2,8 @@
 ghost use Rattle.std.specs.Prelude.{◌≡◌, ◌∷◌};
 ghost use Rattle.store.specs.Writing.{stored_from, mask_numbers, ink_numbers, area_places, drawing_numbers, drawing_places, numbers_of, places_of};
 
-use action::{Action, Area, Bitmap, Clear, Drawing, Ink, Masks, Point, Rectangle, Segment};
 use crate::{BITMAP, CLEAR, NUMBERS, PLACES, POINT, RECTANGLE, SEGMENT};
+use action::{Action, Area, Bitmap, Clear, Drawing, Ink, Masks, Point, Rectangle, Segment};
 
 fn put_masks(masks: Masks, numbers: &mut [u32; NUMBERS])
     ensures { numbers.new ≡ stored_from 0 numbers.old (mask_numbers masks) }
@@ -71,7 +71,12 @@ fn put_point(point: Point, ink: Ink, numbers: &mut [u32; NUMBERS], places: &mut 
     places[5] = point.y.0;
 }
 
-fn put_rectangle(rectangle: Rectangle, ink: Ink, numbers: &mut [u32; NUMBERS], places: &mut [u64; PLACES])
+fn put_rectangle(
+    rectangle: Rectangle,
+    ink: Ink,
+    numbers: &mut [u32; NUMBERS],
+    places: &mut [u64; PLACES],
+)
     ensures numbers_after { numbers.new ≡ stored_from 6 numbers.old (drawing_numbers (Drawing.Rectangle rectangle ink)) }
     ensures places_after { places.new ≡ stored_from 4 places.old (drawing_places (Drawing.Rectangle rectangle ink)) }
 {

@@ -8,6 +8,6 @@ returns c =
       c.action_in.ensures,
       c.in-Some.ensures.cases.same,
       c.in-Some-first_chunk.ensures.cases.same,
-      c.split_at-numbers.ensures.back,
-      c.split_at-places.ensures.back,
+      c.split_at.ensures.back,
+      c.split_at-2.ensures.back,
     )
