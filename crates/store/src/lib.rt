@@ -61,5 +61,5 @@ pub fn get(k: usize, numbers: &[u32], places: &[u64]) -> Action
     let Some(places) = places.first_chunk() else {
         unreachable!()
     };
-    reading::action_in(numbers, places)
+    reading::Slot { numbers, places }.action()
 }

@@ -10,164 +10,173 @@ use action::{
 };
 use units::{LengthInSixteenths, Pixels, Sixteenths};
 
-#[tactic(auto, unfolding(crate::specs::Reading::masks_of))]
-fn masks_in(numbers: &[u32; NUMBERS]) -> Masks
-    ensures { result ≡ masks_of numbers.now }
-{
-    Masks {
-        red: numbers[0],
-        green: numbers[1],
-        blue: numbers[2],
-        alpha: numbers[3],
-        stencil: numbers[4],
-        tag: numbers[5],
-    }
+// An action's own numbers and places.
+#[derive(Drop)]
+pub struct Slot<'a> {
+    pub numbers: &'a [u32; NUMBERS],
+    pub places: &'a [u64; PLACES],
 }
 
-#[tactic(auto, unfolding(crate::specs::Reading::clear_of))]
-fn clear_in(numbers: &[u32; NUMBERS]) -> Clear
-    ensures { result ≡ clear_of numbers.now }
-{
-    Clear {
-        colour: numbers[7],
-        stencil: numbers[8],
-        tag: numbers[9],
-        values: ClearValues {
-            red: numbers[10],
-            green: numbers[11],
-            blue: numbers[12],
-            alpha: numbers[13],
-            stencil: numbers[14],
-            tag: numbers[15],
-        },
+impl Slot<'_> {
+    #[tactic(auto, unfolding(crate::specs::Reading::masks_of))]
+    fn masks(&self) -> Masks
+        ensures { result ≡ masks_of self.now.numbers.now }
+    {
+        Masks {
+            red: self.numbers[0],
+            green: self.numbers[1],
+            blue: self.numbers[2],
+            alpha: self.numbers[3],
+            stencil: self.numbers[4],
+            tag: self.numbers[5],
+        }
     }
-}
 
-#[tactic(auto, unfolding(crate::specs::Reading::ink_of))]
-fn ink_in(numbers: &[u32; NUMBERS]) -> Ink
-    ensures { result ≡ ink_of numbers.now }
-{
-    Ink {
-        colour: Colour {
-            red: numbers[7],
-            green: numbers[8],
-            blue: numbers[9],
-            alpha: numbers[10],
-        },
-        alpha: AlphaTest {
-            test: Test::from(numbers[11]),
-            reference: numbers[12],
-        },
-        stencil: StencilTest {
-            test: Test::from(numbers[13]),
-            reference: numbers[14],
-            mask: numbers[15],
-        },
-        actions: StencilActions {
-            fail: StencilAction::from(numbers[16]),
-            pass: StencilAction::from(numbers[17]),
-        },
-        blend: Blend {
-            source: Factor::from(numbers[18]),
-            target: Factor::from(numbers[19]),
-        },
-        tag: numbers[20],
+    #[tactic(auto, unfolding(crate::specs::Reading::clear_of))]
+    fn clear(&self) -> Clear
+        ensures { result ≡ clear_of self.now.numbers.now }
+    {
+        Clear {
+            colour: self.numbers[7],
+            stencil: self.numbers[8],
+            tag: self.numbers[9],
+            values: ClearValues {
+                red: self.numbers[10],
+                green: self.numbers[11],
+                blue: self.numbers[12],
+                alpha: self.numbers[13],
+                stencil: self.numbers[14],
+                tag: self.numbers[15],
+            },
+        }
     }
-}
 
-#[tactic(auto, unfolding(crate::specs::Reading::scissor_of))]
-fn scissor_in(places: &[u64; PLACES]) -> Area
-    ensures { result ≡ scissor_of places.now }
-{
-    Area {
-        left: Pixels(places[0]),
-        top: Pixels(places[1]),
-        right: Pixels(places[2]),
-        bottom: Pixels(places[3]),
+    #[tactic(auto, unfolding(crate::specs::Reading::ink_of))]
+    fn ink(&self) -> Ink
+        ensures { result ≡ ink_of self.now.numbers.now }
+    {
+        Ink {
+            colour: Colour {
+                red: self.numbers[7],
+                green: self.numbers[8],
+                blue: self.numbers[9],
+                alpha: self.numbers[10],
+            },
+            alpha: AlphaTest {
+                test: Test::from(self.numbers[11]),
+                reference: self.numbers[12],
+            },
+            stencil: StencilTest {
+                test: Test::from(self.numbers[13]),
+                reference: self.numbers[14],
+                mask: self.numbers[15],
+            },
+            actions: StencilActions {
+                fail: StencilAction::from(self.numbers[16]),
+                pass: StencilAction::from(self.numbers[17]),
+            },
+            blend: Blend {
+                source: Factor::from(self.numbers[18]),
+                target: Factor::from(self.numbers[19]),
+            },
+            tag: self.numbers[20],
+        }
     }
-}
 
-#[tactic(auto, unfolding(crate::specs::Reading::point_of))]
-fn point_in(numbers: &[u32; NUMBERS], places: &[u64; PLACES]) -> Point
-    ensures { result ≡ point_of numbers.now places.now }
-{
-    Point {
-        x: Sixteenths(places[4]),
-        y: Sixteenths(places[5]),
-        size: LengthInSixteenths(numbers[21]),
+    #[tactic(auto, unfolding(crate::specs::Reading::scissor_of))]
+    fn scissor(&self) -> Area
+        ensures { result ≡ scissor_of self.now.places.now }
+    {
+        Area {
+            left: Pixels(self.places[0]),
+            top: Pixels(self.places[1]),
+            right: Pixels(self.places[2]),
+            bottom: Pixels(self.places[3]),
+        }
     }
-}
 
-#[tactic(auto, unfolding(crate::specs::Reading::rectangle_of))]
-fn rectangle_in(numbers: &[u32; NUMBERS], places: &[u64; PLACES]) -> Rectangle
-    ensures { result ≡ rectangle_of numbers.now places.now }
-{
-    Rectangle {
-        left: Sixteenths(places[4]),
-        top: Sixteenths(places[5]),
-        right: Sixteenths(places[6]),
-        bottom: Sixteenths(places[7]),
-        width: LengthInSixteenths(numbers[21]),
+    #[tactic(auto, unfolding(crate::specs::Reading::point_of))]
+    fn point(&self) -> Point
+        ensures { result ≡ point_of self.now.numbers.now self.now.places.now }
+    {
+        Point {
+            x: Sixteenths(self.places[4]),
+            y: Sixteenths(self.places[5]),
+            size: LengthInSixteenths(self.numbers[21]),
+        }
     }
-}
 
-#[tactic(auto, unfolding(crate::specs::Reading::bitmap_of))]
-fn bitmap_in(numbers: &[u32; NUMBERS], places: &[u64; PLACES]) -> Bitmap
-    ensures { result ≡ bitmap_of numbers.now places.now }
-{
-    Bitmap {
-        area: Area {
-            left: Pixels(places[4]),
-            top: Pixels(places[5]),
-            right: Pixels(places[6]),
-            bottom: Pixels(places[7]),
-        },
-        start: numbers[21],
-        format: Format::from(numbers[22]),
-        stride: numbers[23],
-        height: numbers[24],
+    #[tactic(auto, unfolding(crate::specs::Reading::rectangle_of))]
+    fn rectangle(&self) -> Rectangle
+        ensures { result ≡ rectangle_of self.now.numbers.now self.now.places.now }
+    {
+        Rectangle {
+            left: Sixteenths(self.places[4]),
+            top: Sixteenths(self.places[5]),
+            right: Sixteenths(self.places[6]),
+            bottom: Sixteenths(self.places[7]),
+            width: LengthInSixteenths(self.numbers[21]),
+        }
     }
-}
 
-#[tactic(auto, unfolding(crate::specs::Reading::segment_of))]
-fn segment_in(numbers: &[u32; NUMBERS], places: &[u64; PLACES]) -> Segment
-    ensures { result ≡ segment_of numbers.now places.now }
-{
-    Segment {
-        from: End {
-            x: Sixteenths(places[4]),
-            y: Sixteenths(places[5]),
-        },
-        to: End {
-            x: Sixteenths(places[6]),
-            y: Sixteenths(places[7]),
-        },
-        width: LengthInSixteenths(numbers[21]),
-        primitive: numbers[22],
+    #[tactic(auto, unfolding(crate::specs::Reading::bitmap_of))]
+    fn bitmap(&self) -> Bitmap
+        ensures { result ≡ bitmap_of self.now.numbers.now self.now.places.now }
+    {
+        Bitmap {
+            area: Area {
+                left: Pixels(self.places[4]),
+                top: Pixels(self.places[5]),
+                right: Pixels(self.places[6]),
+                bottom: Pixels(self.places[7]),
+            },
+            start: self.numbers[21],
+            format: Format::from(self.numbers[22]),
+            stride: self.numbers[23],
+            height: self.numbers[24],
+        }
     }
-}
 
-// Each arm returns, since a value of the match would be copied once more.
-#[tactic(auto, unfolding(crate::specs::Reading::drawing_of))]
-fn drawing_in(numbers: &[u32; NUMBERS], places: &[u64; PLACES]) -> Drawing
-    ensures { result ≡ drawing_of numbers.now places.now }
-{
-    match numbers[6] {
-        CLEAR => return Drawing::Clear(clear_in(numbers)),
-        POINT => return Drawing::Point(point_in(numbers, places), ink_in(numbers)),
-        RECTANGLE => return Drawing::Rectangle(rectangle_in(numbers, places), ink_in(numbers)),
-        BITMAP => return Drawing::Bitmap(bitmap_in(numbers, places), ink_in(numbers)),
-        _ => return Drawing::Segment(segment_in(numbers, places), ink_in(numbers)),
+    #[tactic(auto, unfolding(crate::specs::Reading::segment_of))]
+    fn segment(&self) -> Segment
+        ensures { result ≡ segment_of self.now.numbers.now self.now.places.now }
+    {
+        Segment {
+            from: End {
+                x: Sixteenths(self.places[4]),
+                y: Sixteenths(self.places[5]),
+            },
+            to: End {
+                x: Sixteenths(self.places[6]),
+                y: Sixteenths(self.places[7]),
+            },
+            width: LengthInSixteenths(self.numbers[21]),
+            primitive: self.numbers[22],
+        }
     }
-}
 
-#[tactic(auto, unfolding(crate::specs::Reading::action_of))]
-pub fn action_in(numbers: &[u32; NUMBERS], places: &[u64; PLACES]) -> Action
-    ensures { result ≡ action_of numbers.now places.now }
-{
-    Action {
-        scissor: scissor_in(places),
-        masks: masks_in(numbers),
-        drawing: drawing_in(numbers, places),
+    // Each arm returns, since a value of the match would be copied once more.
+    #[tactic(auto, unfolding(crate::specs::Reading::drawing_of))]
+    fn drawing(&self) -> Drawing
+        ensures { result ≡ drawing_of self.now.numbers.now self.now.places.now }
+    {
+        match self.numbers[6] {
+            CLEAR => return Drawing::Clear(self.clear()),
+            POINT => return Drawing::Point(self.point(), self.ink()),
+            RECTANGLE => return Drawing::Rectangle(self.rectangle(), self.ink()),
+            BITMAP => return Drawing::Bitmap(self.bitmap(), self.ink()),
+            _ => return Drawing::Segment(self.segment(), self.ink()),
+        }
+    }
+
+    #[tactic(auto, unfolding(crate::specs::Reading::action_of))]
+    pub fn action(&self) -> Action
+        ensures { result ≡ action_of self.now.numbers.now self.now.places.now }
+    {
+        Action {
+            scissor: self.scissor(),
+            masks: self.masks(),
+            drawing: self.drawing(),
+        }
     }
 }

@@ -5,7 +5,7 @@ pub returns : goal.returns
 unfolding kept_at
 returns c =
     rw (
-      c.action_in.ensures,
+      c.action.ensures,
       c.in-Some.ensures.cases.same,
       c.in-Some-first_chunk.ensures.cases.same,
       c.split_at.ensures.back,
