@@ -3,7 +3,7 @@ ghost use Rattle.std.specs.Prelude.{◌≡◌, ◌∷◌};
 ghost use Rattle.store.specs.Writing.{stored_from, mask_numbers, ink_numbers, area_places, drawing_numbers, drawing_places, numbers_of, places_of};
 
 use crate::{BITMAP, CLEAR, NUMBERS, PLACES, POINT, RECTANGLE, SEGMENT};
-use action::{Action, Area, Bitmap, Clear, Drawing, Ink, Masks, Point, Rectangle, Segment};
+use action::{Action, Area, Bitmap, Clear, Drawing, Ink, Masks};
 
 fn put_masks(masks: Masks, numbers: &mut [u32; NUMBERS])
     ensures { numbers.new ≡ stored_from 0 numbers.old (mask_numbers masks) }
@@ -61,71 +61,61 @@ fn put_scissor(area: Area, places: &mut [u64; PLACES])
     places[3] = area.bottom.0;
 }
 
-fn put_point(point: Point, ink: Ink, numbers: &mut [u32; NUMBERS], places: &mut [u64; PLACES])
-    ensures numbers_after { numbers.new ≡ stored_from 6 numbers.old (drawing_numbers (Drawing.Point point ink)) }
-    ensures places_after { places.new ≡ stored_from 4 places.old (drawing_places (Drawing.Point point ink)) }
-{
-    put_ink(POINT, ink, numbers);
-    numbers[21] = point.size.0;
-    places[4] = point.x.0;
-    places[5] = point.y.0;
-}
-
-fn put_rectangle(
-    rectangle: Rectangle,
-    ink: Ink,
-    numbers: &mut [u32; NUMBERS],
-    places: &mut [u64; PLACES],
-)
-    ensures numbers_after { numbers.new ≡ stored_from 6 numbers.old (drawing_numbers (Drawing.Rectangle rectangle ink)) }
-    ensures places_after { places.new ≡ stored_from 4 places.old (drawing_places (Drawing.Rectangle rectangle ink)) }
-{
-    put_ink(RECTANGLE, ink, numbers);
-    numbers[21] = rectangle.width.0;
-    places[4] = rectangle.left.0;
-    places[5] = rectangle.top.0;
-    places[6] = rectangle.right.0;
-    places[7] = rectangle.bottom.0;
-}
-
-fn put_bitmap(bitmap: Bitmap, ink: Ink, numbers: &mut [u32; NUMBERS], places: &mut [u64; PLACES])
-    ensures numbers_after { numbers.new ≡ stored_from 6 numbers.old (drawing_numbers (Drawing.Bitmap bitmap ink)) }
-    ensures places_after { places.new ≡ stored_from 4 places.old (drawing_places (Drawing.Bitmap bitmap ink)) }
-{
-    put_ink(BITMAP, ink, numbers);
-    numbers[21] = bitmap.start;
-    numbers[22] = u32::from(bitmap.format);
-    numbers[23] = bitmap.stride;
-    numbers[24] = bitmap.height;
-    places[4] = bitmap.area.left.0;
-    places[5] = bitmap.area.top.0;
-    places[6] = bitmap.area.right.0;
-    places[7] = bitmap.area.bottom.0;
-}
-
-fn put_segment(segment: Segment, ink: Ink, numbers: &mut [u32; NUMBERS], places: &mut [u64; PLACES])
-    ensures numbers_after { numbers.new ≡ stored_from 6 numbers.old (drawing_numbers (Drawing.Segment segment ink)) }
-    ensures places_after { places.new ≡ stored_from 4 places.old (drawing_places (Drawing.Segment segment ink)) }
-{
-    put_ink(SEGMENT, ink, numbers);
-    numbers[21] = segment.width.0;
-    numbers[22] = segment.primitive;
-    places[4] = segment.from.x.0;
-    places[5] = segment.from.y.0;
-    places[6] = segment.to.x.0;
-    places[7] = segment.to.y.0;
-}
-
-fn put_drawing(drawing: Drawing, numbers: &mut [u32; NUMBERS], places: &mut [u64; PLACES])
-    ensures numbers_after { numbers.new ≡ stored_from 6 numbers.old (drawing_numbers drawing) }
-    ensures places_after { places.new ≡ stored_from 4 places.old (drawing_places drawing) }
+fn put_drawing_numbers(drawing: Drawing, numbers: &mut [u32; NUMBERS])
+    ensures { numbers.new ≡ stored_from 6 numbers.old (drawing_numbers drawing) }
 {
     match drawing {
         Drawing::Clear(clear) => put_clear(clear, numbers),
-        Drawing::Point(point, ink) => put_point(point, ink, numbers, places),
-        Drawing::Rectangle(rectangle, ink) => put_rectangle(rectangle, ink, numbers, places),
-        Drawing::Bitmap(bitmap, ink) => put_bitmap(bitmap, ink, numbers, places),
-        Drawing::Segment(segment, ink) => put_segment(segment, ink, numbers, places),
+        Drawing::Point(point, ink) => {
+            put_ink(POINT, ink, numbers);
+            numbers[21] = point.size.0;
+        }
+        Drawing::Rectangle(rectangle, ink) => {
+            put_ink(RECTANGLE, ink, numbers);
+            numbers[21] = rectangle.width.0;
+        }
+        Drawing::Bitmap(bitmap, ink) => {
+            put_ink(BITMAP, ink, numbers);
+            numbers[21] = bitmap.start;
+            numbers[22] = u32::from(bitmap.format);
+            numbers[23] = bitmap.stride;
+            numbers[24] = bitmap.height;
+        }
+        Drawing::Segment(segment, ink) => {
+            put_ink(SEGMENT, ink, numbers);
+            numbers[21] = segment.width.0;
+            numbers[22] = segment.primitive;
+        }
+    }
+}
+
+fn put_drawing_places(drawing: Drawing, places: &mut [u64; PLACES])
+    ensures { places.new ≡ stored_from 4 places.old (drawing_places drawing) }
+{
+    match drawing {
+        Drawing::Clear(_) => {}
+        Drawing::Point(point, _) => {
+            places[4] = point.x.0;
+            places[5] = point.y.0;
+        }
+        Drawing::Rectangle(rectangle, _) => {
+            places[4] = rectangle.left.0;
+            places[5] = rectangle.top.0;
+            places[6] = rectangle.right.0;
+            places[7] = rectangle.bottom.0;
+        }
+        Drawing::Bitmap(bitmap, _) => {
+            places[4] = bitmap.area.left.0;
+            places[5] = bitmap.area.top.0;
+            places[6] = bitmap.area.right.0;
+            places[7] = bitmap.area.bottom.0;
+        }
+        Drawing::Segment(segment, _) => {
+            places[4] = segment.from.x.0;
+            places[5] = segment.from.y.0;
+            places[6] = segment.to.x.0;
+            places[7] = segment.to.y.0;
+        }
     }
 }
 
@@ -135,6 +125,7 @@ pub fn put_action(action: Action, numbers: &mut [u32; NUMBERS], places: &mut [u6
     ensures places_after { places.new ≡ stored_from 0 places.old (places_of action) }
 {
     put_masks(action.masks, numbers);
+    put_drawing_numbers(action.drawing, numbers);
     put_scissor(action.scissor, places);
-    put_drawing(action.drawing, numbers, places);
+    put_drawing_places(action.drawing, places);
 }
