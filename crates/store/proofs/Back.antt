@@ -13,9 +13,9 @@ use Rattle.action.specs.declared.ink.Ink.{Ink}
 use Rattle.action.specs.declared.ink.Masks.{Masks}
 use Rattle.action.specs.declared.shape.Area.{Area}
 use Rattle.store.specs.Reading.{numbers_each, places_each, masks_of, clear_of, ink_of, scissor_of, point_of, rectangle_of, bitmap_of, segment_of, drawing_of, action_of}
-use Rattle.store.specs.Store.{Room, Put, kept_at}
+use Rattle.store.specs.Store.{Room, Put, group_of, kept_at}
 use Rattle.store.specs.Writing.{stored_from, mask_numbers, ink_numbers, bitmap_numbers, segment_numbers, area_places, drawing_numbers, drawing_places, numbers_of, places_of}
-use Rattle.store.proofs.Groups.{stored-all, stored-long, lent, lent-long, replaced, replaced-here, replaced-before, replaced-long}
+use Rattle.store.proofs.Groups.{stored-all, stored-long, group-long, replaced, replaced-here, replaced-before, replaced-long}
 
 ink-back : (masks : Masks) (kind : ℕ) (ink : Ink) (more ns : List ℕ) → ink_of ((mask_numbers masks ++ (kind ∷ ink_numbers ink ++ more)) ++ ns) ≡ ink
 unfolding ink_of
@@ -60,18 +60,18 @@ stored_back action ns ps m n =
     rw (stored-all ns (numbers_of action) p, stored-all ps (places_of action) q)
     (action-back action (drop (length (numbers_of action)) ns) (drop (length (places_of action)) ps))
 
--- the k-th groups were lent and came back with the action stored in them
+-- the action was stored in the k-th groups
 pub put-in-group : (action : Action) (k : ℕ) (numbers places ns ps : List ℕ) → Room k numbers places
-    → ns ≡ stored_from 0 (lent numbers_each k numbers) (numbers_of action) → ps ≡ stored_from 0 (lent places_each k places) (places_of action)
+    → ns ≡ stored_from 0 (group_of numbers_each k numbers) (numbers_of action) → ps ≡ stored_from 0 (group_of places_each k places) (places_of action)
     → Put action k numbers places (replaced numbers_each k numbers ns) (replaced places_each k places ps)
 unfolding kept_at
 put-in-group action k numbers places ns ps room e f =
-    let a = lent-long numbers_each k numbers room.0 in
-    let b = lent-long places_each k places room.1 in
-    let m : length ns ≡ numbers_each = ap length e ∙ stored-long 0 (lent numbers_each k numbers) (numbers_of action) ∙ a in
-    let n : length ps ≡ places_each = ap length f ∙ stored-long 0 (lent places_each k places) (places_of action) ∙ b in
+    let a = group-long numbers_each k numbers room.0 in
+    let b = group-long places_each k places room.1 in
+    let m : length ns ≡ numbers_each = ap length e ∙ stored-long 0 (group_of numbers_each k numbers) (numbers_of action) ∙ a in
+    let n : length ps ≡ places_each = ap length f ∙ stored-long 0 (group_of places_each k places) (places_of action) ∙ b in
     record {
-      kept = rw (replaced-here numbers_each k numbers ns room.0 m, replaced-here places_each k places ps room.1 n, e, f) (stored_back action (lent numbers_each k numbers) (lent places_each k places) a b);
+      kept = rw (replaced-here numbers_each k numbers ns room.0 m, replaced-here places_each k places ps room.1 n, e, f) (stored_back action (group_of numbers_each k numbers) (group_of places_each k places) a b);
       others = λ j l. rw (replaced-before numbers_each k numbers ns room.0 j l, replaced-before places_each k places ps room.1 j l);
       lengths = (replaced-long numbers_each k numbers ns room.0 m, replaced-long places_each k places ps room.1 n);
     }

@@ -1,7 +1,7 @@
 -- The groups of one length that a list is cut into, and a list with values stored at its front. Assumes nothing.
 use mathlib.Core.Path.{◌≡◌, refl, sym, ap, ◌∙◌}
 use mathlib.Core.List.{List, [], ◌∷◌, ◌++◌}
-use Prim.Native.Nat.{ℕ, suc, ◌+◌, ◌-◌, ◌*◌, ◌<◌, ◌≤◌}
+use Prim.Native.Nat.{ℕ, suc, ◌+◌, ◌*◌, ◌<◌, ◌≤◌}
 use native.Mathlib.Nat.{mul-le-mul_left, mul-suc, le_of_suc-le-suc, not-suc-le-zero}
 use native.Mathlib.Omega.{arith}
 use lib.ListN.{length, take, drop, length-append, length-take, length-drop, length-set, set, take-append-drop}
@@ -23,19 +23,12 @@ pub stored-long : (i : ℕ) (xs vs : List ℕ) → length (stored_from i xs vs) 
 stored-long i xs [] = refl
 stored-long i xs (v ∷ vs) = stored-long (suc i) (set xs i v) vs ∙ length-set xs i v
 
--- the k-th group, lent by its bounds
-abbrev pub lent : ℕ → ℕ → List ℕ → List ℕ
-lent n k xs = take (n * k + n - n * k) (drop (n * k) xs)
+pub group-long : (n k : ℕ) (xs : List ℕ) → n * k + n ≤ length xs → length (group_of n k xs) ≡ n
+group-long n k xs h = simp (length-take, length-drop) (omega arith)
 
-pub group-lent : (n k : ℕ) (xs : List ℕ) → lent n k xs ≡ group_of n k xs
-group-lent n k xs = let e : n * k + n - n * k ≡ n = omega arith in rw e
-
-pub lent-long : (n k : ℕ) (xs : List ℕ) → n * k + n ≤ length xs → length (lent n k xs) ≡ n
-lent-long n k xs h = simp (length-take, length-drop) (omega arith)
-
--- the list after the k-th group was lent, and came back as ys
+-- the list after its k-th group became ys
 abbrev pub replaced : ℕ → ℕ → List ℕ → List ℕ → List ℕ
-replaced n k xs ys = take (n * k) xs ++ (ys ++ drop (n * k + n - n * k) (drop (n * k) xs))
+replaced n k xs ys = take (n * k) xs ++ (ys ++ drop n (drop (n * k) xs))
 
 module _ (n k : ℕ) (xs ys : List ℕ) (room : n * k + n ≤ length xs) where
   pub replaced-here : length ys ≡ n → group_of n k (replaced n k xs ys) ≡ ys
@@ -45,7 +38,7 @@ module _ (n k : ℕ) (xs ys : List ℕ) (room : n * k + n ≤ length xs) where
 
   pub replaced-before : (j : ℕ) → j < k → group_of n j (replaced n k xs ys) ≡ group_of n j xs
   replaced-before j l =
-      front (ys ++ drop (n * k + n - n * k) (drop (n * k) xs))
+      front (ys ++ drop n (drop (n * k) xs))
       ∙ sym (front (drop (n * k) xs))
       ∙ ap (group_of n j) (take-append-drop (n * k) xs)
     where

@@ -21,16 +21,31 @@ pub const NUMBERS: usize = 25;
 
 pub const PLACES: usize = 8;
 
+// The kinds.
+const CLEAR: u32 = 0;
+
+const POINT: u32 = 1;
+
+const RECTANGLE: u32 = 2;
+
+const BITMAP: u32 = 3;
+
+const SEGMENT: u32 = 4;
+
 // Keeps an action as the k-th.
 pub fn put(action: Action, k: usize, numbers: &mut [u32], places: &mut [u64])
     requires { Room k numbers.old places.old }
     ensures { Put action k numbers.old places.old numbers.new places.new }
 {
-    let a = NUMBERS * k;
-    let b = PLACES * k;
-    let e = a + NUMBERS;
-    let f = b + PLACES;
-    writing::put_action(action, &mut numbers[a..e], &mut places[b..f]);
+    let (_, numbers) = numbers.split_at_mut(NUMBERS * k);
+    let Some(numbers) = numbers.first_chunk_mut() else {
+        unreachable!()
+    };
+    let (_, places) = places.split_at_mut(PLACES * k);
+    let Some(places) = places.first_chunk_mut() else {
+        unreachable!()
+    };
+    writing::put_action(action, numbers, places);
 }
 
 // The k-th action.
@@ -38,9 +53,13 @@ pub fn get(k: usize, numbers: &[u32], places: &[u64]) -> Action
     requires { Room k numbers.now places.now }
     ensures { result ≡ kept_at numbers.now places.now k }
 {
-    let number = NUMBERS * k;
-    let place = PLACES * k;
-    let numbers_end = number + NUMBERS;
-    let places_end = place + PLACES;
-    reading::action_in(&numbers[number..numbers_end], &places[place..places_end])
+    let (_, numbers) = numbers.split_at(NUMBERS * k);
+    let Some(numbers) = numbers.first_chunk() else {
+        unreachable!()
+    };
+    let (_, places) = places.split_at(PLACES * k);
+    let Some(places) = places.first_chunk() else {
+        unreachable!()
+    };
+    reading::Slot { numbers, places }.action()
 }

@@ -1,7 +1,8 @@
 // An action out of its own numbers and places.
-ghost use Rattle.std.specs.Prelude.{◌≡◌, length};
-ghost use Rattle.store.specs.Reading.{numbers_each, places_each, masks_of, clear_of, ink_of, scissor_of, point_of, rectangle_of, bitmap_of, segment_of, drawing_of, action_of};
+ghost use Rattle.std.specs.Prelude.{◌≡◌};
+ghost use Rattle.store.specs.Reading.{masks_of, clear_of, ink_of, scissor_of, point_of, rectangle_of, bitmap_of, segment_of, drawing_of, action_of};
 
+use crate::{BITMAP, CLEAR, NUMBERS, PLACES, POINT, RECTANGLE};
 use action::{
     Action, AlphaTest, Area, Bitmap, Blend, Clear, ClearValues, Colour, Drawing, End, Factor,
     Format, Ink, Masks, Point, Rectangle, Segment, StencilAction, StencilActions, StencilTest,
@@ -9,180 +10,173 @@ use action::{
 };
 use units::{LengthInSixteenths, Pixels, Sixteenths};
 
-fn masks_in(numbers: &[u32]) -> Masks
-    requires { length numbers.now ≡ numbers_each }
-    ensures { result ≡ masks_of numbers.now }
-{
-    Masks {
-        red: numbers[0],
-        green: numbers[1],
-        blue: numbers[2],
-        alpha: numbers[3],
-        stencil: numbers[4],
-        tag: numbers[5],
-    }
+// An action's own numbers and places.
+#[derive(Drop)]
+pub struct Slot<'a> {
+    pub numbers: &'a [u32; NUMBERS],
+    pub places: &'a [u64; PLACES],
 }
 
-fn clear_in(numbers: &[u32]) -> Clear
-    requires { length numbers.now ≡ numbers_each }
-    ensures { result ≡ clear_of numbers.now }
-{
-    let values = ClearValues {
-        red: numbers[10],
-        green: numbers[11],
-        blue: numbers[12],
-        alpha: numbers[13],
-        stencil: numbers[14],
-        tag: numbers[15],
-    };
-    Clear {
-        colour: numbers[7],
-        stencil: numbers[8],
-        tag: numbers[9],
-        values: values,
+impl Slot<'_> {
+    #[tactic(auto, unfolding(crate::specs::Reading::masks_of))]
+    fn masks(&self) -> Masks
+        ensures { result ≡ masks_of self.now.numbers.now }
+    {
+        Masks {
+            red: self.numbers[0],
+            green: self.numbers[1],
+            blue: self.numbers[2],
+            alpha: self.numbers[3],
+            stencil: self.numbers[4],
+            tag: self.numbers[5],
+        }
     }
-}
 
-fn ink_in(numbers: &[u32]) -> Ink
-    requires { length numbers.now ≡ numbers_each }
-    ensures { result ≡ ink_of numbers.now }
-{
-    let colour = Colour {
-        red: numbers[7],
-        green: numbers[8],
-        blue: numbers[9],
-        alpha: numbers[10],
-    };
-    let alpha = AlphaTest {
-        test: Test::from(numbers[11]),
-        reference: numbers[12],
-    };
-    let stencil = StencilTest {
-        test: Test::from(numbers[13]),
-        reference: numbers[14],
-        mask: numbers[15],
-    };
-    let actions = StencilActions {
-        fail: StencilAction::from(numbers[16]),
-        pass: StencilAction::from(numbers[17]),
-    };
-    let blend = Blend {
-        source: Factor::from(numbers[18]),
-        target: Factor::from(numbers[19]),
-    };
-    Ink {
-        colour: colour,
-        alpha: alpha,
-        stencil: stencil,
-        actions: actions,
-        blend: blend,
-        tag: numbers[20],
+    #[tactic(auto, unfolding(crate::specs::Reading::clear_of))]
+    fn clear(&self) -> Clear
+        ensures { result ≡ clear_of self.now.numbers.now }
+    {
+        Clear {
+            colour: self.numbers[7],
+            stencil: self.numbers[8],
+            tag: self.numbers[9],
+            values: ClearValues {
+                red: self.numbers[10],
+                green: self.numbers[11],
+                blue: self.numbers[12],
+                alpha: self.numbers[13],
+                stencil: self.numbers[14],
+                tag: self.numbers[15],
+            },
+        }
     }
-}
 
-fn scissor_in(places: &[u64]) -> Area
-    requires { length places.now ≡ places_each }
-    ensures { result ≡ scissor_of places.now }
-{
-    Area {
-        left: Pixels(places[0]),
-        top: Pixels(places[1]),
-        right: Pixels(places[2]),
-        bottom: Pixels(places[3]),
+    #[tactic(auto, unfolding(crate::specs::Reading::ink_of))]
+    fn ink(&self) -> Ink
+        ensures { result ≡ ink_of self.now.numbers.now }
+    {
+        Ink {
+            colour: Colour {
+                red: self.numbers[7],
+                green: self.numbers[8],
+                blue: self.numbers[9],
+                alpha: self.numbers[10],
+            },
+            alpha: AlphaTest {
+                test: Test::from(self.numbers[11]),
+                reference: self.numbers[12],
+            },
+            stencil: StencilTest {
+                test: Test::from(self.numbers[13]),
+                reference: self.numbers[14],
+                mask: self.numbers[15],
+            },
+            actions: StencilActions {
+                fail: StencilAction::from(self.numbers[16]),
+                pass: StencilAction::from(self.numbers[17]),
+            },
+            blend: Blend {
+                source: Factor::from(self.numbers[18]),
+                target: Factor::from(self.numbers[19]),
+            },
+            tag: self.numbers[20],
+        }
     }
-}
 
-fn point_in(numbers: &[u32], places: &[u64]) -> Point
-    requires { (length numbers.now ≡ numbers_each) × (length places.now ≡ places_each) }
-    ensures { result ≡ point_of numbers.now places.now }
-{
-    Point {
-        x: Sixteenths(places[4]),
-        y: Sixteenths(places[5]),
-        size: LengthInSixteenths(numbers[21]),
+    #[tactic(auto, unfolding(crate::specs::Reading::scissor_of))]
+    fn scissor(&self) -> Area
+        ensures { result ≡ scissor_of self.now.places.now }
+    {
+        Area {
+            left: Pixels(self.places[0]),
+            top: Pixels(self.places[1]),
+            right: Pixels(self.places[2]),
+            bottom: Pixels(self.places[3]),
+        }
     }
-}
 
-fn rectangle_in(numbers: &[u32], places: &[u64]) -> Rectangle
-    requires { (length numbers.now ≡ numbers_each) × (length places.now ≡ places_each) }
-    ensures { result ≡ rectangle_of numbers.now places.now }
-{
-    Rectangle {
-        left: Sixteenths(places[4]),
-        top: Sixteenths(places[5]),
-        right: Sixteenths(places[6]),
-        bottom: Sixteenths(places[7]),
-        width: LengthInSixteenths(numbers[21]),
+    #[tactic(auto, unfolding(crate::specs::Reading::point_of))]
+    fn point(&self) -> Point
+        ensures { result ≡ point_of self.now.numbers.now self.now.places.now }
+    {
+        Point {
+            x: Sixteenths(self.places[4]),
+            y: Sixteenths(self.places[5]),
+            size: LengthInSixteenths(self.numbers[21]),
+        }
     }
-}
 
-fn bitmap_in(numbers: &[u32], places: &[u64]) -> Bitmap
-    requires { (length numbers.now ≡ numbers_each) × (length places.now ≡ places_each) }
-    ensures { result ≡ bitmap_of numbers.now places.now }
-{
-    let area = Area {
-        left: Pixels(places[4]),
-        top: Pixels(places[5]),
-        right: Pixels(places[6]),
-        bottom: Pixels(places[7]),
-    };
-    Bitmap {
-        area: area,
-        start: numbers[21],
-        format: Format::from(numbers[22]),
-        stride: numbers[23],
-        height: numbers[24],
+    #[tactic(auto, unfolding(crate::specs::Reading::rectangle_of))]
+    fn rectangle(&self) -> Rectangle
+        ensures { result ≡ rectangle_of self.now.numbers.now self.now.places.now }
+    {
+        Rectangle {
+            left: Sixteenths(self.places[4]),
+            top: Sixteenths(self.places[5]),
+            right: Sixteenths(self.places[6]),
+            bottom: Sixteenths(self.places[7]),
+            width: LengthInSixteenths(self.numbers[21]),
+        }
     }
-}
 
-fn segment_in(numbers: &[u32], places: &[u64]) -> Segment
-    requires { (length numbers.now ≡ numbers_each) × (length places.now ≡ places_each) }
-    ensures { result ≡ segment_of numbers.now places.now }
-{
-    let from = End {
-        x: Sixteenths(places[4]),
-        y: Sixteenths(places[5]),
-    };
-    let to = End {
-        x: Sixteenths(places[6]),
-        y: Sixteenths(places[7]),
-    };
-    Segment {
-        from: from,
-        to: to,
-        width: LengthInSixteenths(numbers[21]),
-        primitive: numbers[22],
+    #[tactic(auto, unfolding(crate::specs::Reading::bitmap_of))]
+    fn bitmap(&self) -> Bitmap
+        ensures { result ≡ bitmap_of self.now.numbers.now self.now.places.now }
+    {
+        Bitmap {
+            area: Area {
+                left: Pixels(self.places[4]),
+                top: Pixels(self.places[5]),
+                right: Pixels(self.places[6]),
+                bottom: Pixels(self.places[7]),
+            },
+            start: self.numbers[21],
+            format: Format::from(self.numbers[22]),
+            stride: self.numbers[23],
+            height: self.numbers[24],
+        }
     }
-}
 
-fn drawing_in(numbers: &[u32], places: &[u64]) -> Drawing
-    requires { (length numbers.now ≡ numbers_each) × (length places.now ≡ places_each) }
-    ensures { result ≡ drawing_of numbers.now places.now }
-{
-    let kind = numbers[6];
-    if kind == 0 {
-        return Drawing::Clear(clear_in(numbers));
+    #[tactic(auto, unfolding(crate::specs::Reading::segment_of))]
+    fn segment(&self) -> Segment
+        ensures { result ≡ segment_of self.now.numbers.now self.now.places.now }
+    {
+        Segment {
+            from: End {
+                x: Sixteenths(self.places[4]),
+                y: Sixteenths(self.places[5]),
+            },
+            to: End {
+                x: Sixteenths(self.places[6]),
+                y: Sixteenths(self.places[7]),
+            },
+            width: LengthInSixteenths(self.numbers[21]),
+            primitive: self.numbers[22],
+        }
     }
-    let ink = ink_in(numbers);
-    if kind == 1 {
-        return Drawing::Point(point_in(numbers, places), ink);
-    }
-    if kind == 2 {
-        return Drawing::Rectangle(rectangle_in(numbers, places), ink);
-    }
-    if kind == 3 {
-        return Drawing::Bitmap(bitmap_in(numbers, places), ink);
-    }
-    Drawing::Segment(segment_in(numbers, places), ink)
-}
 
-pub fn action_in(numbers: &[u32], places: &[u64]) -> Action
-    requires { (length numbers.now ≡ numbers_each) × (length places.now ≡ places_each) }
-    ensures { result ≡ action_of numbers.now places.now }
-{
-    Action {
-        scissor: scissor_in(places),
-        masks: masks_in(numbers),
-        drawing: drawing_in(numbers, places),
+    // Each arm returns, since a value of the match would be copied once more.
+    #[tactic(auto, unfolding(crate::specs::Reading::drawing_of))]
+    fn drawing(&self) -> Drawing
+        ensures { result ≡ drawing_of self.now.numbers.now self.now.places.now }
+    {
+        match self.numbers[6] {
+            CLEAR => return Drawing::Clear(self.clear()),
+            POINT => return Drawing::Point(self.point(), self.ink()),
+            RECTANGLE => return Drawing::Rectangle(self.rectangle(), self.ink()),
+            BITMAP => return Drawing::Bitmap(self.bitmap(), self.ink()),
+            _ => return Drawing::Segment(self.segment(), self.ink()),
+        }
+    }
+
+    #[tactic(auto, unfolding(crate::specs::Reading::action_of))]
+    pub fn action(&self) -> Action
+        ensures { result ≡ action_of self.now.numbers.now self.now.places.now }
+    {
+        Action {
+            scissor: self.scissor(),
+            masks: self.masks(),
+            drawing: self.drawing(),
+        }
     }
 }
