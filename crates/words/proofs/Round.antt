@@ -3,7 +3,7 @@
 use Prim.Native.Nat.{ℕ, ◌%◌, ◌^◌}
 use mathlib.Core.Path.{◌≡◌, refl, sym, ap, subst, ◌∙◌}
 use mathlib.Core.Bool.{Bool, true, false}
-use mathlib.Core.List.{List}
+use mathlib.Core.List.{List, [], ◌∷◌}
 use native.Mathlib.Nat.{mod-lt}
 use native.Mathlib.Omega.{arith}
 use lib.Pow.{pow_pos}
@@ -30,9 +30,11 @@ spell-written-list s w e = go (row_of s.command) refl (sound s.command) e
         let h : Holds fs s w = encoded-holds s w p e in
         rw (h.own, q, h.back, fit-means fs (numbers s) h.fits, p.own) (ap (λ (x : Spelling). Ok x) (spelling-back fs s h.fits))
 
--- Reading a written command gives it back: of the type Spelling is what has five numbers.
-pub spell-written : (s : Spelling) (w : ℕ) → length s.numbers ≡ 5 → write_spelling s ≡ Ok w → spell_word w ≡ Ok s
-spell-written s w l e = spell-written-list s w e ∙ ap (λ (x : Spelling). Ok x) (spelling-same s l)
+-- Reading a written command gives it back: its number, and the five numbers of its fields.
+pub spell-written :
+    (number a b c d e w : ℕ) → write_spelling (record { command = number; numbers = a ∷ b ∷ c ∷ d ∷ e ∷ [] }) ≡ Ok w →
+    spell_word w ≡ Ok (record { command = number; numbers = a ∷ b ∷ c ∷ d ∷ e ∷ [] })
+spell-written number a b c d e w x = spell-written-list (record { command = number; numbers = a ∷ b ∷ c ∷ d ∷ e ∷ [] }) w x
 
 -- Writing a read word gives the word with its reserved bits cleared.
 pub write-spelt : (w : ℕ) (s : Spelling) → spell_word w ≡ Ok s → write_spelling s ≡ Ok (cleared w)

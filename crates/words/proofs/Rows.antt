@@ -62,10 +62,6 @@ front_at (f ∷ fs) (n ∷ ns) (suc i) h = front_at fs ns i (both_true (holds f 
 pub spelling-by : (n : ℕ) (ns ms : List ℕ) → ((i : ℕ) → get_or ns i 0 ≡ get_or ms i 0) → spelling n ns ≡ spelling n ms
 spelling-by n ns ms h = λ i. record { command = n; numbers = h 0 i ∷ h 1 i ∷ h 2 i ∷ h 3 i ∷ h 4 i ∷ [] }
 
--- so a value of the type, which has five numbers, is its command's and numbers' spelling
-pub spelling-same : (s : Spelling) → length s.numbers ≡ 5 → spelling s.command s.numbers ≡ s
-spelling-same s l = λ i. record { command = s.command; numbers = by-place 0 s.numbers l i }
-
 pub spelling-back : (fs : List Field) (s : Spelling) → fit fs (numbers s) ≡ true → spelling s.command (front fs (numbers s)) ≡ spelling s.command s.numbers
 spelling-back fs s h = spelling-by s.command (front fs (numbers s)) (numbers s) (λ i. front_at fs (numbers s) i h)
 
