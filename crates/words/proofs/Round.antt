@@ -8,7 +8,7 @@ use native.Mathlib.Nat.{mod-lt}
 use native.Mathlib.Omega.{arith}
 use lib.Pow.{pow_pos}
 use Rattle.words.specs.declared.field.Field.{Field}
-use Rattle.std.specs.Prelude.{Result, Ok, Err, length}
+use Rattle.std.specs.Prelude.{Result, Ok, Err}
 use Rattle.words.specs.declared.fault.WordFault.{WordFault}
 use Rattle.words.specs.declared.spelling.Spelling.{Spelling}
 use Rattle.words.specs.declared.word.Word.{Word}
@@ -17,7 +17,7 @@ use Rattle.words.specs.Table.{row, Make, Found, none, some, row_of, apply, spell
 use Rattle.words.specs.Words.{command, checked, read_as, read_word, spell_as, spell_word, write_as, write_spelling, cleared_as, cleared}
 use Rattle.words.proofs.Digits.{join-values, values_low, fit-values, fit-means}
 use Rattle.words.proofs.Table.{Sound, sound, command-of}
-use Rattle.words.proofs.Rows.{Five, five-of, apply-front, spelling-same, spelling-back, lifted, checked-yes, Holds, encoded-holds}
+use Rattle.words.proofs.Rows.{Five, five-of, apply-front, spelling-back, lifted, checked-yes, Holds, encoded-holds}
 
 -- Reading a written command gives it back, with 0 for each of the five numbers that a list lacks.
 pub spell-written-list : (s : Spelling) (w : ℕ) → write_spelling s ≡ Ok w → spell_word w ≡ Ok (spelling s.command s.numbers)

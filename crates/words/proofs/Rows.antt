@@ -17,7 +17,6 @@ use Rattle.words.specs.Table.{Make, apply, spelling, numbers}
 use Rattle.std.specs.Prelude.{Ok}
 use Rattle.words.specs.Words.{command, checked, encoded}
 use Rattle.words.proofs.Digits.{front, join-lt, values_join}
-use Rattle.words.proofs.Packing.{by-place}
 use Rattle.words.proofs.Table.{Proper, command-of}
 
 -- A SPELLING has five numbers, and those past a command's fields are 0.
