@@ -1,6 +1,6 @@
 -- One pixel of a row written: it is read back, and every other pixel is as it was.
 use mathlib.Core.List.{List}
-use mathlib.Core.Path.{◌≡◌, ◌∙◌}
+use mathlib.Core.Path.{◌≡◌, ◌∙◌, refl}
 use Prim.Native.Nat.{ℕ, ◌+◌, ◌*◌, ◌<◌}
 use native.Mathlib.Omega.{arith}
 use lib.ListN.{length, get_or, set, length-set}
@@ -41,7 +41,35 @@ module _ (picture : List ℕ) (x r g b : ℕ) where
   elsewhere i e f h =
       get_or-set_other two (3 * x + 2) i b 0 h ∙ get_or-set_other one (3 * x + 1) i g 0 f ∙ get_or-set_other picture (3 * x) i r 0 e
 
+-- a pixel with the colour of another
+unfoldable pub tinted : Pixel → Pixel → Pixel
+tinted with before =
+    record {
+      red = with.red;
+      green = with.green;
+      blue = with.blue;
+      alpha = before.alpha;
+      stencil = before.stencil;
+      tag = before.tag;
+    }
+
 module _ (x : ℕ) (colours tags alpha stencil : List ℕ) (p : Pixel) where
+  pub touched_tinted :
+      3 * x + 2 < length colours →
+      Touched x (tinted p) (pixel_in colours tags alpha stencil) (pixel_in (three colours x p.red p.green p.blue) tags alpha stencil)
+  unfolding pixel_in tinted
+  touched_tinted h =
+      record {
+        at = same-pixel _ _ (red-back colours x _ _ _ h) (green-back colours x _ _ _ h) (blue-back colours x _ _ _ h) refl refl refl;
+        other =
+            λ k n. same-pixel _ _ (elsewhere colours x _ _ _ (3 * k) (omega arith) (omega arith) (omega arith))
+            (elsewhere colours x _ _ _ (3 * k + 1) (omega arith) (omega arith) (omega arith))
+            (elsewhere colours x _ _ _ (3 * k + 2) (omega arith) (omega arith) (omega arith))
+            refl
+            refl
+            refl;
+      }
+
   pub touched_set :
       3 * x + 2 < length colours → x < length tags → x < length alpha → x < length stencil →
       Touched x (λ _. p) (pixel_in colours tags alpha stencil)

@@ -7,6 +7,13 @@ use Prim.Native.Nat.{ℕ, ◌+◌, ◌<◌, ◌≤◌}
 use native.Mathlib.Nat.{le_refl, eq-or-lt_of_le}
 use native.Mathlib.Omega.{arith}
 use lib.Dec.{leb, ltb}
+use lib.ListN.{length, get_or, take, drop, replicate}
+use mathlib.Core.List.{◌++◌}
+use Prim.Native.Nat.{◌-◌}
+use Rattle.std.proofs.Common.{rules}
+use Rattle.std.proofs.lemmas.List.{places}
+use Rattle.paint.proofs.Points.{same-pixel, tinted}
+use Rattle.paint.specs.Runs.{pixel_in}
 use borrow.Author.Tests.{lt-ltb, le-ltb, ltb-true, ltb-false, le-leb, lt-leb}
 use Rattle.action.specs.declared.Action.{Action}
 use Rattle.pixel.specs.declared.Pixel.{Pixel}
@@ -37,7 +44,7 @@ swept-more from x step old now new low s t =
     split : (k : ℕ) → k < x + 1 → (k ≡ x) ⊎ (k < x)
     split k l = eq-or-lt_of_le (omega arith)
 
-below_or_not : (k n : ℕ) → (k < n) ⊎ (n ≤ k)
+pub below_or_not : (k n : ℕ) → (k < n) ⊎ (n ≤ k)
 below_or_not k n = go (ltb k n) refl
   where
     go : (t : Bool) → ltb k n ≡ t → (k < n) ⊎ (n ≤ k)
@@ -60,6 +67,34 @@ swept_all from to x step old now high end s =
         (λ (e : x ≡ from). ⊎_elim (λ (f : k < from). s.outside k (inl f)) (λ (f : from ≤ k). s.outside k (inr (omega arith))) (below_or_not k from))
         end
 
+-- A part of a run filled with one byte: what is read there, and elsewhere.
+pub record Flooded (from to byte : ℕ) (old new : List ℕ) : Type 0 where
+  pub inside : (k : ℕ) → from ≤ k → k < to → get_or new k 0 ≡ byte
+  pub outside : (k : ℕ) → (k < from) ⊎ (to ≤ k) → get_or new k 0 ≡ get_or old k 0
+
+pub flooded :
+    (from to byte : ℕ) (run part : List ℕ) → from ≤ to → to ≤ length run →
+    part ≡ replicate (length (take (to - from) (drop from run))) byte →
+    Flooded from to byte run (take from run ++ (part ++ drop (to - from) (drop from run)))
+flooded from to byte run part low high e =
+    record {
+      inside = λ k h l. rw e (search (rules, places));
+      outside = λ k h. rw e (⊎_elim (λ (b : k < from). search (rules, places)) (λ (b : to ≤ k). search (rules, places)) h);
+    }
+
+-- a row whose three runs of bytes were filled and whose colours were then swept
+pub swept-wiped :
+    (from to : ℕ) (with : Pixel) (colours : List ℕ) {tags alpha stencil tags' alpha' stencil' : List ℕ} {now : ℕ → Pixel} →
+    Flooded from to with.tag tags tags' → Flooded from to with.alpha alpha alpha' → Flooded from to with.stencil stencil stencil' →
+    Swept from to (λ _. tinted with) (pixel_in colours tags' alpha' stencil') now →
+    Swept from to (λ _ _. with) (pixel_in colours tags alpha stencil) now
+unfolding pixel_in tinted
+swept-wiped from to with colours t a s swept =
+    record {
+      inside = λ k h l. swept.inside k h l ∙ same-pixel _ _ refl refl refl (a.inside k h l) (s.inside k h l) (t.inside k h l);
+      outside = λ k h. swept.outside k h ∙ same-pixel _ _ refl refl refl (a.outside k h) (s.outside k h) (t.outside k h);
+    }
+
 -- another step that does the same, and one that changes nothing
 pub swept_as :
     (chord : Chord) (from to : ℕ) {step step' : ℕ → Pixel → Pixel} {old now : ℕ → Pixel} → ((k : ℕ) (p : Pixel) → step k p ≡ step' k p) →
@@ -79,6 +114,13 @@ either_way false p = refl
 pub swept-still : (chord : Chord) (from to : ℕ) (old : ℕ → Pixel) → Swept from to (held chord (λ _ p. p)) old old
 unfolding held
 swept-still chord from to old = record { inside = λ k h l. sym (either_way (holds_in chord (pixel_at k)) (old k)); outside = λ k h. refl }
+
+-- a step at every column, each of which is held
+pub swept-held :
+    (chord : Chord) (from to : ℕ) {step : ℕ → Pixel → Pixel} {old now : ℕ → Pixel} →
+    ((k : ℕ) → k < to → holds_in chord (pixel_at k) ≡ true) → Swept from to step old now → Swept from to (held chord step) old now
+unfolding held
+swept-held chord from to holds s = record { inside = λ k h l. s.inside k h l ∙ rw (holds k l); outside = s.outside }
 
 -- a column that is held was touched, and one that is not was left
 module _ (chord : Chord) (step : ℕ → Pixel → Pixel) {x : ℕ} (old : ℕ → Pixel) where

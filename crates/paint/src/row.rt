@@ -114,6 +114,28 @@ impl Row {
         }
     }
 
+    // Gives the pixel to each column of the chord, whatever it holds: none is asked about.
+    fn wipe(&mut self, chord: Chord, width: u32, with: Pixel)
+        requires { width ≤ widest }
+        ensures { Swept
+            (count_before width chord.left)
+            (count_before width chord.right)
+            (λ _ _. with)
+            (pixels self.old)
+            (pixels self.new) }
+    {
+        let from = chord.left.before(width) as usize;
+        let to = from.max(chord.right.before(width) as usize);
+        self.tags[from..to].fill(with.tag);
+        self.alpha[from..to].fill(with.alpha);
+        self.stencil[from..to].fill(with.stencil);
+        for x in from..to {
+            self.colours[3 * x] = with.red;
+            self.colours[3 * x + 1] = with.green;
+            self.colours[3 * x + 2] = with.blue;
+        }
+    }
+
     // One call of `paint` for all drawings with an ink, so that the compiler puts it into the loop.
     fn ink(
         &mut self,
@@ -160,8 +182,8 @@ impl Row {
                     tag: with.tag,
                 },
             ),
-            Plain::Wipe(with) => self.sweep(chord, width, |_, _| with),
-            Plain::Each => match drawing {
+            Plain::Wipe(with) if chord.is_flat() => self.wipe(chord, width, with),
+            Plain::Wipe(_) | Plain::Each => match drawing {
                 Drawing::Clear(clear) => self.sweep(
                     chord,
                     width,

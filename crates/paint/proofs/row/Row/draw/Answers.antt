@@ -1,4 +1,4 @@
-use Rattle.paint.proofs.Sweeps.{swept-drawn, swept-still}
+use Rattle.paint.proofs.Sweeps.{swept-drawn, swept-held, swept-still}
 use Rattle.paint.specs.Picture.{changed}
 use Rattle.paint.specs.Runs.{texel_in}
 use Rattle.pixel.specs.Plain.{filled}
@@ -7,6 +7,7 @@ use Rattle.std.proofs.Common.{rules}
 use Rattle.units.specs.Units.{pixel_at}
 use mathlib.Core.Logic.{inl, inr}
 use mathlib.Core.Path.{refl, sym}
+use native.Mathlib.Omega.{arith}
 use Rattle.paint.proofs.row.Row.draw.Goals as goal
 
 pub returns-in-Nothing : goal.returns-in-Nothing
@@ -22,7 +23,7 @@ returns-in-Fill c =
 
 pub returns-in-Wipe : goal.returns-in-Wipe
 returns-in-Wipe c =
-    swept-drawn _ _ _ _ _ _ _ (rw c.outline.ensures at c.reach-chord.ensures) (c.sweep-in-Wipe.ensures (λ _ _. c.in-Wipe.with) (search rules))
+    swept-drawn _ _ _ _ _ _ _ (rw c.outline.ensures at c.reach-chord.ensures) (swept-held _ _ _ (λ k l. c.is_flat.ensures.all c.if-is_flat.true (pixel_at k) (omega arith)) c.wipe.ensures)
     (λ k p. sym (c.in-Wipe.ensures c.args.memory.now (pixel_at k) c.args.q p))
 
 pub returns-in-Clear : goal.returns-in-Clear
