@@ -9,7 +9,8 @@ use action::{
 };
 use units::{LengthInPixels, Pixels};
 
-// What every drawing but a CLEAR is drawn with: colour, tag, tests, stencil actions, blend.
+// What every drawing but a CLEAR is drawn with: colour, tag, tests, stencil actions, blend, each the plain number that its
+// word gave; `numbers-meant` of crates/invariant tells what each names.
 #[derive(Clone, Copy)]
 pub struct Brush {
     pub red: u32,

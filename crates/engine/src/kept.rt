@@ -5,6 +5,8 @@ ghost use Rattle.engine.specs.Kept.{kept_with, newest, begun, pushed, popped, ca
 use crate::context::Context;
 use crate::machine::Machine;
 
+// At most four contexts, the first `count` of them kept. An array beside its length, since the engine goes by value: an index
+// that is not constant copies all four.
 #[derive(Clone, Copy)]
 pub struct Kept {
     pub contexts: [Context; 4],

@@ -10,7 +10,8 @@ use crate::kept::{Engine, Kept};
 use crate::machine::{Event, Flags, Machine, Shape};
 use action::{Action, Clear, Drawing};
 
-// A run that stops before its list has ended: the number of document 01's table, and the place that goes with it.
+// A run that stops before its list has ended: the number of document 01's table, as the event had it, and the place that
+// goes with it.
 #[derive(Clone, Copy)]
 pub struct Stop {
     pub number: u32,

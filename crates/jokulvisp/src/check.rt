@@ -12,6 +12,7 @@ const LARGEST_MEMORY: usize = 1048576;
 
 const MOST_STEPS: u32 = 65536;
 
+// As include/jokulvisp.h has it: `number` is one of document 01's table.
 #[repr(C)]
 #[derive(Clone, Copy)]
 pub struct JvAnswer {

@@ -7,7 +7,7 @@ use action::Action;
 use shape::{Rows, reach};
 use units::TALLEST;
 
-// How a row stands that has no mark yet, which is 0 or 1.
+// How a row stands that has no mark yet. A byte like the marks, 0 and 1: it stands in the lent run that will hold them.
 pub const LATER: u8 = 2;
 
 pub const BESIDE: u8 = 3;

@@ -100,6 +100,7 @@ fn mark(old: &Screen, new: &Screen, width: u32, marks: &mut [u8])
     }
 }
 
+// By a `for`: the count of a filtered iterator is no sum from the front, as `marked` is.
 fn count(marks: &[u8]) -> u32
     requires { length marks.now ≤ tallest }
     ensures { result ≡ marked marks.now (length marks.now) }

@@ -10,6 +10,7 @@ pub struct Marks {
     pub fault: u32,
 }
 
+// What C is told: `number` is one of document 01's table, 0, 30 and 31 among them, which are no refusals.
 #[derive(Clone, Copy)]
 pub struct Answer {
     pub number: u32,

@@ -1,5 +1,5 @@
 // A command of a display list, with its fields by the guide's names, from the high bits down. A field is signed where
-// the guide calls it so.
+// the guide calls it so, and every other one a plain number: what it names, `numbers-meant` of crates/invariant tells.
 #[derive(Clone, Copy)]
 pub enum Word {
     Vertex2f {
