@@ -1,5 +1,5 @@
-// One row in work, and one action drawn into it. `draw` shows the order: which columns the action reaches, whether it does
-// the same to all of them, and then the columns one by one.
+// One row in work, and one action drawn into it. `draw` shows the order: which columns the action reaches, and whether it
+// does the same to all of them; if not, they are drawn one by one.
 ghost use Rattle.std.specs.Prelude.{ℕ, ◌≡◌, ◌<◌, ◌≤◌, ◌*◌, length};
 ghost use Rattle.pixel.specs.Plain.{filled};
 ghost use Rattle.shape.specs.Cover.{between};
@@ -53,8 +53,8 @@ fn texel_at(bitmap: Option<Bitmap>, p: Pixels, q: Pixels, memory: &[u8]) -> Colo
     }
 }
 
-// The columns of a frame of this width that the chord holds, from the one on and before the other. They lie together, so
-// that the others are told by going inwards from both ends.
+// The columns of a frame of this width that the chord holds, from the one on and before the other. They lie together:
+// those that are not held are passed over from both ends, and none in between needs to be asked about.
 fn columns(chord: Chord, width: u32) -> (usize, usize)
     requires { width ≤ widest }
     ensures exact { (k : ℕ) → k < width → has_column chord (pixel_at k) ≡ between result.0 result.1 k }
@@ -142,6 +142,7 @@ impl Row {
         });
     }
 
+    // Their stencil stays.
     fn fill(&mut self, from: usize, to: usize, with: Fill)
         requires { (from ≤ to) × (to ≤ widest) }
         ensures { Swept from to (λ _. filled with) (pixels self.old) (pixels self.new) }
