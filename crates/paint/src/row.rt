@@ -1,5 +1,5 @@
-// One row in work, and one action drawn into it. `draw` shows the order: which columns the action reaches, and whether it
-// does the same to all of them; if not, they are drawn one by one.
+// One row in work, and one action drawn into it. `draw` shows the order: which columns the action reaches, and whether
+// it does the same to all of them; if not, they are drawn one by one.
 ghost use Rattle.std.specs.Prelude.{ℕ, ◌≡◌, ◌<◌, ◌≤◌, ◌*◌, length};
 ghost use Rattle.pixel.specs.Plain.{filled};
 ghost use Rattle.shape.specs.Cover.{between};
