@@ -6,6 +6,7 @@ use native.Mathlib.Omega.{arith}
 use lib.ListN.{length, get_or, set, length-set}
 use lib.Seq.{get_or-set_same, get_or-set_other}
 use Rattle.pixel.specs.declared.Pixel.{Pixel}
+use Rattle.pixel.specs.declared.plain.Fill.{Fill}
 use Rattle.paint.specs.Runs.{Touched, pixel_in}
 
 pub same-pixel :
@@ -41,8 +42,8 @@ module _ (picture : List ℕ) (x r g b : ℕ) where
   elsewhere i e f h =
       get_or-set_other two (3 * x + 2) i b 0 h ∙ get_or-set_other one (3 * x + 1) i g 0 f ∙ get_or-set_other picture (3 * x) i r 0 e
 
--- a pixel with the colour of another
-unfoldable pub tinted : Pixel → Pixel → Pixel
+-- a pixel with the colour of a filling
+unfoldable pub tinted : Fill → Pixel → Pixel
 tinted with before =
     record {
       red = with.red;
@@ -53,12 +54,12 @@ tinted with before =
       tag = before.tag;
     }
 
-module _ (x : ℕ) (colours tags alpha stencil : List ℕ) (p : Pixel) where
+module _ (x : ℕ) (colours tags alpha stencil : List ℕ) where
   pub touched_tinted :
-      3 * x + 2 < length colours →
+      (p : Fill) → 3 * x + 2 < length colours →
       Touched x (tinted p) (pixel_in colours tags alpha stencil) (pixel_in (three colours x p.red p.green p.blue) tags alpha stencil)
   unfolding pixel_in tinted
-  touched_tinted h =
+  touched_tinted p h =
       record {
         at = same-pixel _ _ (red-back colours x _ _ _ h) (green-back colours x _ _ _ h) (blue-back colours x _ _ _ h) refl refl refl;
         other =
@@ -70,6 +71,7 @@ module _ (x : ℕ) (colours tags alpha stencil : List ℕ) (p : Pixel) where
             refl;
       }
 
+module _ (x : ℕ) (colours tags alpha stencil : List ℕ) (p : Pixel) where
   pub touched_set :
       3 * x + 2 < length colours → x < length tags → x < length alpha → x < length stencil →
       Touched x (λ _. p) (pixel_in colours tags alpha stencil)

@@ -1,13 +1,15 @@
-// One row in work, and one action drawn into it. `draw` shows the order: which columns the action reaches, whether it does
-// the same to all of them, and then the columns one by one.
-ghost use Rattle.std.specs.Prelude.{◌≡◌, ◌<◌, ◌≤◌, ◌*◌, length};
-ghost use Rattle.shape.specs.OneRow.{InFrame};
-ghost use Rattle.units.specs.Units.{count_before, widest};
+// One row in work, and one action drawn into it. `draw` shows the order: which columns the action reaches, and whether
+// it does the same to all of them; if not, they are drawn one by one.
+ghost use Rattle.std.specs.Prelude.{ℕ, ◌≡◌, ◌<◌, ◌≤◌, ◌*◌, length};
+ghost use Rattle.pixel.specs.Plain.{filled};
+ghost use Rattle.shape.specs.Cover.{between};
+ghost use Rattle.shape.specs.OneRow.{InFrame, has_column};
+ghost use Rattle.units.specs.Units.{pixel_at, widest};
 ghost use Rattle.paint.specs.Picture.{colours_of, tags_of};
-ghost use Rattle.paint.specs.Runs.{Blank, Does, Drawn, PlainDrawing, Swept, Touched, held, inked, pixels, texel_in};
+ghost use Rattle.paint.specs.Runs.{Blank, Does, Drawn, PlainDrawing, Swept, Touched, inked, pixels, texel_in};
 
 use action::{Action, Bitmap, Colour, Drawing, Ink, Masks};
-use pixel::{Pixel, Plain};
+use pixel::{Fill, Pixel, Plain};
 use shape::{Chord, reach};
 use units::{Pixels, WIDEST};
 
@@ -51,6 +53,24 @@ fn texel_at(bitmap: Option<Bitmap>, p: Pixels, q: Pixels, memory: &[u8]) -> Colo
     }
 }
 
+// The columns of a frame of this width that the chord holds, from the one on and before the other. They lie together:
+// those that are not held are passed over from both ends, and none in between needs to be asked about.
+fn columns(chord: Chord, width: u32) -> (usize, usize)
+    requires { width ≤ widest }
+    ensures exact { (k : ℕ) → k < width → has_column chord (pixel_at k) ≡ between result.0 result.1 k }
+    ensures bounds { (result.0 ≤ result.1) × (result.1 ≤ widest) }
+{
+    let mut from = chord.left.before(width);
+    let mut to = from.max(chord.right.before(width));
+    while from < to && !chord.holds(Pixels::of(from)) {
+        from += 1;
+    }
+    while from < to && !chord.holds(Pixels::of(to - 1)) {
+        to -= 1;
+    }
+    (from as usize, to as usize)
+}
+
 impl Row {
     pub fn blank() -> Row
         ensures { Blank result }
@@ -92,43 +112,43 @@ impl Row {
         self.tags[x] = pixel.tag;
     }
 
-    // Does the step to each column that the chord holds. A flat chord holds all of its columns: none is asked about.
-    fn sweep<F: Fn(Pixels, Pixel) -> Pixel>(&mut self, chord: Chord, width: u32, step: F)
-        requires { (width ≤ widest) × F.IsAlwaysCallable step }
-        ensures { (does : _) → Does (F.post step) does → Swept
-            (count_before width chord.left)
-            (count_before width chord.right)
-            (held chord does)
-            (pixels self.old)
-            (pixels self.new) }
+    // Does the step to each of the columns.
+    fn sweep<F: Fn(Pixels, Pixel) -> Pixel>(&mut self, from: usize, to: usize, step: F)
+        requires { ((from ≤ to) × (to ≤ widest)) × F.IsAlwaysCallable step }
+        ensures { (does : _) → Does (F.post step) does → Swept from to does (pixels self.old) (pixels self.new) }
     {
-        let flat = chord.is_flat();
-        let from = chord.left.before(width) as usize;
-        let to = chord.right.before(width) as usize;
         for x in from..to {
-            let p = Pixels::of(x as u32);
-            if flat || chord.holds(p) {
-                let before = self.pixel(x);
-                self.set(x, step(p, before));
-            }
+            let before = self.pixel(x);
+            self.set(x, step(Pixels::of(x as u32), before));
         }
     }
 
-    // Gives the pixel to each column of the chord, whatever it holds: none is asked about.
-    fn wipe(&mut self, chord: Chord, width: u32, with: Pixel)
-        requires { width ≤ widest }
-        ensures { Swept
-            (count_before width chord.left)
-            (count_before width chord.right)
-            (λ _ _. with)
-            (pixels self.old)
-            (pixels self.new) }
+    // One call of `paint` for all drawings with an ink, so that the compiler puts it into the loop.
+    fn ink(
+        &mut self,
+        from: usize,
+        to: usize,
+        ink: Ink,
+        masks: Masks,
+        bitmap: Option<Bitmap>,
+        q: Pixels,
+        memory: &[u8],
+    )
+        requires { (from ≤ to) × (to ≤ widest) }
+        ensures { Swept from to (inked memory.now ink masks bitmap q) (pixels self.old) (pixels self.new) }
     {
-        let from = chord.left.before(width) as usize;
-        let to = from.max(chord.right.before(width) as usize);
+        self.sweep(from, to, |p, before| {
+            pixel::paint(ink, masks, texel_at(bitmap, p, q, memory), before)
+        });
+    }
+
+    // Their stencil stays.
+    fn fill(&mut self, from: usize, to: usize, with: Fill)
+        requires { (from ≤ to) × (to ≤ widest) }
+        ensures { Swept from to (λ _. filled with) (pixels self.old) (pixels self.new) }
+    {
         self.tags[from..to].fill(with.tag);
         self.alpha[from..to].fill(with.alpha);
-        self.stencil[from..to].fill(with.stencil);
         for x in from..to {
             self.colours[3 * x] = with.red;
             self.colours[3 * x + 1] = with.green;
@@ -136,28 +156,22 @@ impl Row {
         }
     }
 
-    // One call of `paint` for all drawings with an ink, so that the compiler puts it into the loop.
-    fn ink(
-        &mut self,
-        chord: Chord,
-        width: u32,
-        ink: Ink,
-        masks: Masks,
-        bitmap: Option<Bitmap>,
-        q: Pixels,
-        memory: &[u8],
-    )
-        requires { width ≤ widest }
-        ensures { Swept
-            (count_before width chord.left)
-            (count_before width chord.right)
-            (held chord (inked memory.now ink masks bitmap q))
-            (pixels self.old)
-            (pixels self.new) }
+    fn wipe(&mut self, from: usize, to: usize, with: Pixel)
+        requires { (from ≤ to) × (to ≤ widest) }
+        ensures { Swept from to (λ _ _. with) (pixels self.old) (pixels self.new) }
     {
-        self.sweep(chord, width, |p, before| {
-            pixel::paint(ink, masks, texel_at(bitmap, p, q, memory), before)
-        });
+        self.stencil[from..to].fill(with.stencil);
+        self.fill(
+            from,
+            to,
+            Fill {
+                red: with.red,
+                green: with.green,
+                blue: with.blue,
+                alpha: with.alpha,
+                tag: with.tag,
+            },
+        );
     }
 
     // Draws the action into the row, which is row q of a frame of this width.
@@ -168,32 +182,22 @@ impl Row {
         let drawing = action.drawing;
         let masks = action.masks;
         let chord = reach::outline(drawing).reach(action.scissor, width, q);
+        let (from, to) = columns(chord, width);
         match plainly(drawing, masks) {
             Plain::Nothing => {}
-            Plain::Fill(with) => self.sweep(
-                chord,
-                width,
-                |_, before| Pixel {
-                    red: with.red,
-                    green: with.green,
-                    blue: with.blue,
-                    alpha: with.alpha,
-                    stencil: before.stencil,
-                    tag: with.tag,
-                },
-            ),
-            Plain::Wipe(with) if chord.is_flat() => self.wipe(chord, width, with),
-            Plain::Wipe(_) | Plain::Each => match drawing {
+            Plain::Fill(with) => self.fill(from, to, with),
+            Plain::Wipe(with) => self.wipe(from, to, with),
+            Plain::Each => match drawing {
                 Drawing::Clear(clear) => self.sweep(
-                    chord,
-                    width,
+                    from,
+                    to,
                     |_, before| pixel::clear(clear, masks, before),
                 ),
                 Drawing::Point(_, ink) | Drawing::Rectangle(_, ink) | Drawing::Segment(_, ink) =>
-                    self.ink(chord, width, ink, masks, None, q, memory),
+                    self.ink(from, to, ink, masks, None, q, memory),
                 Drawing::Bitmap(bitmap, ink) => self.ink(
-                    chord,
-                    width,
+                    from,
+                    to,
                     ink,
                     masks,
                     Some(bitmap),

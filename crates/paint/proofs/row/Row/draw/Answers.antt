@@ -1,4 +1,4 @@
-use Rattle.paint.proofs.Sweeps.{swept-drawn, swept-held, swept-still}
+use Rattle.paint.proofs.Sweeps.{swept-drawn, swept-still}
 use Rattle.paint.specs.Picture.{changed}
 use Rattle.paint.specs.Runs.{texel_in}
 use Rattle.pixel.specs.Plain.{filled}
@@ -7,40 +7,39 @@ use Rattle.std.proofs.Common.{rules}
 use Rattle.units.specs.Units.{pixel_at}
 use mathlib.Core.Logic.{inl, inr}
 use mathlib.Core.Path.{refl, sym}
-use native.Mathlib.Omega.{arith}
 use Rattle.paint.proofs.row.Row.draw.Goals as goal
 
 pub returns-in-Nothing : goal.returns-in-Nothing
 returns-in-Nothing c =
-    swept-drawn _ _ _ _ _ _ _ (rw c.outline.ensures at c.reach-chord.ensures) (swept-still _ _ _ _)
+    swept-drawn _ _ _ _ _ _ _ _ _ (rw c.outline.ensures at c.reach-chord.ensures) c.columns-from.ensures.exact (swept-still _ _ _)
     (λ k p. sym (c.in-Nothing.ensures c.args.memory.now (pixel_at k) c.args.q p))
 
 pub returns-in-Fill : goal.returns-in-Fill
 unfolding filled
 returns-in-Fill c =
-    swept-drawn _ _ _ _ _ _ _ (rw c.outline.ensures at c.reach-chord.ensures) (c.sweep.ensures (λ _. filled c.in-Fill.with) (search rules))
+    swept-drawn _ _ _ _ _ _ _ _ _ (rw c.outline.ensures at c.reach-chord.ensures) c.columns-from.ensures.exact c.fill.ensures
     (λ k p. sym (c.in-Fill.ensures c.args.memory.now (pixel_at k) c.args.q p))
 
 pub returns-in-Wipe : goal.returns-in-Wipe
 returns-in-Wipe c =
-    swept-drawn _ _ _ _ _ _ _ (rw c.outline.ensures at c.reach-chord.ensures) (swept-held _ _ _ (λ k l. c.is_flat.ensures.all c.if-is_flat.true (pixel_at k) (omega arith)) c.wipe.ensures)
+    swept-drawn _ _ _ _ _ _ _ _ _ (rw c.outline.ensures at c.reach-chord.ensures) c.columns-from.ensures.exact c.wipe.ensures
     (λ k p. sym (c.in-Wipe.ensures c.args.memory.now (pixel_at k) c.args.q p))
 
 pub returns-in-Clear : goal.returns-in-Clear
 unfolding changed
 returns-in-Clear c =
-    swept-drawn _ _ _ _ _ _ _ (rw c.outline.ensures at c.reach-chord.ensures) (c.sweep-in-Clear.ensures (λ _. cleared c.in-Clear.clear c.args.action.masks) (search rules))
+    swept-drawn _ _ _ _ _ _ _ _ _ (rw c.outline.ensures at c.reach-chord.ensures) c.columns-from.ensures.exact (c.sweep.ensures (λ _. cleared c.in-Clear.clear c.args.action.masks) (search rules))
     (λ k p. rw c.in-Clear.is refl)
 
 pub returns-in-Bitmap : goal.returns-in-Bitmap
 unfolding changed texel_in
 returns-in-Bitmap c =
-    swept-drawn _ _ _ _ _ _ _ (rw c.outline.ensures at c.reach-chord.ensures) c.ink.ensures (λ k p. rw c.in-Bitmap.is refl)
+    swept-drawn _ _ _ _ _ _ _ _ _ (rw c.outline.ensures at c.reach-chord.ensures) c.columns-from.ensures.exact c.ink.ensures (λ k p. rw c.in-Bitmap.is refl)
 
 pub returns-in-Point : goal.returns-in-Point
 unfolding changed texel_in
 returns-in-Point c =
-    swept-drawn _ _ _ _ _ _ _ (rw c.outline.ensures at c.reach-chord.ensures) c.ink-in-Point.ensures (λ k p. elim c.in-Point.is [
+    swept-drawn _ _ _ _ _ _ _ _ _ (rw c.outline.ensures at c.reach-chord.ensures) c.columns-from.ensures.exact c.ink-in-Point.ensures (λ k p. elim c.in-Point.is [
       | inl w ↦ rw w.1 refl
       | inr r ↦ elim r [ inl w ↦ rw w.1 refl | inr w ↦ rw w.1 refl ]
     ])
