@@ -126,7 +126,12 @@ impl Machine {
             Some(Primitive::Points) => point_event(v, self.context.placing.pointsize),
             Some(Primitive::Lines) => match self.corner.take() {
                 Some(from) => {
-                    segment_event(from, v, self.context.placing.linewidth, LinePrimitive::Lines)
+                    segment_event(
+                        from,
+                        v,
+                        self.context.placing.linewidth,
+                        LinePrimitive::Lines,
+                    )
                 }
                 None => {
                     self.corner = Some(v.end());
@@ -135,7 +140,12 @@ impl Machine {
             },
             Some(Primitive::LineStrip) => match self.corner.replace(v.end()) {
                 Some(from) => {
-                    segment_event(from, v, self.context.placing.linewidth, LinePrimitive::LineStrip)
+                    segment_event(
+                        from,
+                        v,
+                        self.context.placing.linewidth,
+                        LinePrimitive::LineStrip,
+                    )
                 }
                 None => Event::Quiet,
             },

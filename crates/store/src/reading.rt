@@ -5,8 +5,8 @@ ghost use Rattle.store.specs.Reading.{masks_of, clear_of, ink_of, scissor_of, po
 use crate::{BITMAP, CLEAR, NUMBERS, PLACES, POINT, RECTANGLE};
 use action::{
     Action, AlphaTest, Area, Bitmap, Blend, Clear, ClearValues, Colour, Drawing, End, Factor,
-    Format, Ink, LinePrimitive, Masks, Point, Rectangle, Segment, StencilAction, StencilActions, StencilTest,
-    Test,
+    Format, Ink, LinePrimitive, Masks, Point, Rectangle, Segment, StencilAction, StencilActions,
+    StencilTest, Test,
 };
 use units::{LengthInSixteenths, Pixels, Sixteenths};
 
