@@ -121,36 +121,23 @@ impl Machine {
         requires { memory ≤ most_memory }
         ensures { result ≡ vertexed self handles.now memory v }
     {
+        let width = self.context.placing.linewidth;
         let event = match self.primitive {
             Some(Primitive::Bitmaps) => bitmap_event(handles, v, memory),
             Some(Primitive::Points) => point_event(v, self.context.placing.pointsize),
             Some(Primitive::Lines) => match self.corner.take() {
-                Some(from) => {
-                    segment_event(
-                        from,
-                        v,
-                        self.context.placing.linewidth,
-                        LinePrimitive::Lines,
-                    )
-                }
+                Some(from) => segment_event(from, v, width, LinePrimitive::Lines),
                 None => {
                     self.corner = Some(v.end());
                     Event::Quiet
                 }
             },
             Some(Primitive::LineStrip) => match self.corner.replace(v.end()) {
-                Some(from) => {
-                    segment_event(
-                        from,
-                        v,
-                        self.context.placing.linewidth,
-                        LinePrimitive::LineStrip,
-                    )
-                }
+                Some(from) => segment_event(from, v, width, LinePrimitive::LineStrip),
                 None => Event::Quiet,
             },
             Some(Primitive::Rects) => match self.corner.take() {
-                Some(corner) => rectangle_event(corner, v, self.context.placing.linewidth),
+                Some(corner) => rectangle_event(corner, v, width),
                 None => {
                     self.corner = Some(v.end());
                     Event::Quiet
