@@ -1,7 +1,8 @@
 // A display list run: the state of the engine, what each command does to it, and the actions that come of it.
 //
 // A `Screen` is a list that can be run: `finish` runs it to its end or fault, and of a `Run` of it `next` asks for one
-// drawing action after the other. Their callers never see a word.
+// drawing action after the other. Both stand on `advance`, which goes on from an engine to the next action, the end or the
+// fault. Their callers never see a word.
 #![tactic(auto)]
 
 mod command;
@@ -19,6 +20,6 @@ mod vertex;
 pub use fault::Fault;
 pub use handles::Handles;
 pub use kept::Engine;
-pub use run::Stop;
+pub use run::{Advanced, Find, Stop, advance};
 pub use running::{Ending, Run};
 pub use screen::Screen;

@@ -10,7 +10,7 @@ use shape::{Rows, reach};
 pub const MOST: usize = 1024;
 
 // The first actions of a list, each with the rows that it can reach. `count` is how many the list has, None where they
-// are more than there is room for. Numbers and places are two arrays, as `put` and `get` of crates/store take them.
+// are as many as there is room for, or more. Numbers and places are two arrays, as `put` and `get` of crates/store take them.
 #[derive(Drop)]
 pub struct Kept {
     pub numbers: [u32; store::NUMBERS * MOST],
