@@ -12,8 +12,6 @@ use Rattle.pixel.specs.Pixel.{painted}
 use Rattle.pixel.specs.Plain.{PlainBy}
 use Rattle.pixel.specs.declared.Pixel.{Pixel}
 use Rattle.pixel.specs.declared.plain.Plain.{Plain}
-use Rattle.shape.specs.OneRow.{holds_in}
-use Rattle.shape.specs.declared.Chord.{Chord}
 use Rattle.texel.specs.Texel.{texel_at}
 use Rattle.units.specs.Units.{pixel_at, widest}
 use Rattle.units.specs.declared.Pixels.{Pixels}
@@ -63,10 +61,6 @@ pub record Touched (x : ℕ) (step : Pixel → Pixel) (old now : ℕ → Pixel) 
 pub record Swept (from to : ℕ) (step : ℕ → Pixel → Pixel) (old now : ℕ → Pixel) : Type 0 where
   pub inside : (k : ℕ) → from ≤ k → k < to → now k ≡ step k (old k)
   pub outside : (k : ℕ) → (k < from) ⊎ (to ≤ k) → now k ≡ old k
-
--- a step at the columns that a chord holds
-unfoldable pub held : Chord → (ℕ → Pixel → Pixel) → ℕ → Pixel → Pixel
-held chord step x before = cond (holds_in chord (pixel_at x)) (step x before) before
 
 -- what a drawing makes of a pixel of row q
 abbrev pub change : List ℕ → Masks → Drawing → Pixels → ℕ → Pixel → Pixel
