@@ -14,9 +14,7 @@ use Rattle.action.specs.declared.numbers.Factor.{Factor}
 use Rattle.action.specs.declared.numbers.Factor.TheVariants as f
 use Rattle.action.specs.declared.numbers.Format.{Format}
 use Rattle.action.specs.declared.numbers.Format.TheVariants as m
-use Rattle.action.specs.declared.numbers.LinePrimitive.{LinePrimitive}
-use Rattle.action.specs.declared.numbers.LinePrimitive.TheVariants as p
-use Rattle.action.specs.Numbers.{test_number, test_of, tests, stencil_action_number, stencil_action_of, stencil_actions, factor_number, factor_of, factors, format_number, format_of, line_primitive_number, line_primitive_of}
+use Rattle.action.specs.Numbers.{test_number, test_of, tests, stencil_action_number, stencil_action_of, stencil_actions, factor_number, factor_of, factors, format_number, format_of}
 
 -- the entries of a table and the case after the last have the numbers from i on
 abbrev Counted : {A : Type 0} → (A → ℕ) → ℕ → List A → A → Type 0
@@ -97,13 +95,3 @@ unfolding format_number format_of
 format-of m.Argb1555 = refl
 format-of m.L8 = refl
 format-of m.Rgb565 = refl
-
-pub line-primitive-number : (n : ℕ) → (n ≡ 3) ⊎ (n ≡ 4) → line_primitive_number (line_primitive_of n) ≡ n
-unfolding line_primitive_number line_primitive_of
-line-primitive-number n (inl e) = rw e
-line-primitive-number n (inr e) = rw e
-
-pub line-primitive-of : (a : LinePrimitive) → line_primitive_of (line_primitive_number a) ≡ a
-unfolding line_primitive_number line_primitive_of
-line-primitive-of p.Lines = refl
-line-primitive-of p.LineStrip = refl

@@ -1,4 +1,4 @@
--- The numbers that the guide's tables give to tests, stencil actions, blend factors, formats and primitives of lines, and what each number names.
+-- The numbers that the guide's tables give to tests, stencil actions, blend factors and formats, and what each number names.
 -- Document 01's table, row 12, refuses a word with a number that names nothing, and row 13 a format that is not drawn; here such a number gives the last case.
 use Rattle.std.specs.Prelude.{ℕ, cond, List, [], ◌∷◌, eqb, get_or}
 use Rattle.action.specs.declared.numbers.Test.{Test}
@@ -9,8 +9,6 @@ use Rattle.action.specs.declared.numbers.Factor.{Factor}
 use Rattle.action.specs.declared.numbers.Factor.TheVariants as f
 use Rattle.action.specs.declared.numbers.Format.{Format}
 use Rattle.action.specs.declared.numbers.Format.TheVariants as m
-use Rattle.action.specs.declared.numbers.LinePrimitive.{LinePrimitive}
-use Rattle.action.specs.declared.numbers.LinePrimitive.TheVariants as p
 
 -- The guide, 4.4 ALPHA_FUNC: "NEVER 0" to "ALWAYS 7"; 4.42 STENCIL_FUNC refers to it.
 unfoldable pub test_number : Test → ℕ
@@ -67,11 +65,3 @@ format_number m.Rgb565 = 7
 
 unfoldable pub format_of : ℕ → Format
 format_of n = cond (eqb n 0) m.Argb1555 (cond (eqb n 3) m.L8 m.Rgb565)
-
--- 4.5 BEGIN, table 9: "LINES 3" and "LINE_STRIP 4".
-unfoldable pub line_primitive_number : LinePrimitive → ℕ
-line_primitive_number p.Lines = 3
-line_primitive_number p.LineStrip = 4
-
-unfoldable pub line_primitive_of : ℕ → LinePrimitive
-line_primitive_of n = cond (eqb n 3) p.Lines p.LineStrip

@@ -9,7 +9,7 @@ mod shape;
 pub use ink::{
     AlphaTest, Blend, Clear, ClearValues, Colour, Ink, Masks, StencilActions, StencilTest,
 };
-pub use numbers::{Factor, Format, LinePrimitive, StencilAction, Test};
+pub use numbers::{Factor, Format, StencilAction, Test};
 pub use shape::{Area, Bitmap, End, Point, Rectangle, Segment};
 
 #[derive(Clone, Copy, PartialEq, Eq)]

@@ -1,7 +1,7 @@
-// What a display list names by number: tests, stencil actions, blend factors, bitmap formats and the primitives of lines.
+// What a display list names by number: tests, stencil actions, blend factors and bitmap formats.
 // No word with another number reaches an action, so a number that names nothing may give any case: it gives the last.
 ghost use Rattle.std.specs.Prelude.{◌≡◌};
-ghost use Rattle.action.specs.Numbers.{test_of, test_number, stencil_action_of, stencil_action_number, factor_of, factor_number, format_of, format_number, line_primitive_of, line_primitive_number};
+ghost use Rattle.action.specs.Numbers.{test_of, test_number, stencil_action_of, stencil_action_number, factor_of, factor_number, format_of, format_number};
 
 #[derive(Clone, Copy, PartialEq, Eq)]
 pub enum Test {
@@ -141,33 +141,5 @@ impl From<Format> for u32 {
     #[tactic(auto, unfolding(crate::specs::Numbers::format_number))]
     fn from(format: Format) -> u32 {
         format as u32
-    }
-}
-
-// The primitives that draw segments.
-#[derive(Clone, Copy, PartialEq, Eq)]
-pub enum LinePrimitive {
-    Lines = 3,
-    LineStrip = 4,
-}
-
-impl From<u32> for LinePrimitive {
-    ghost from_gives = { λ n named. named ≡ line_primitive_of n };
-
-    #[tactic(auto, unfolding(crate::specs::Numbers::line_primitive_of))]
-    fn from(n: u32) -> LinePrimitive {
-        match n {
-            3 => LinePrimitive::Lines,
-            _ => LinePrimitive::LineStrip,
-        }
-    }
-}
-
-impl From<LinePrimitive> for u32 {
-    ghost from_gives = { λ primitive n. n ≡ line_primitive_number primitive };
-
-    #[tactic(auto, unfolding(crate::specs::Numbers::line_primitive_number))]
-    fn from(primitive: LinePrimitive) -> u32 {
-        primitive as u32
     }
 }

@@ -3,7 +3,7 @@ ghost use Rattle.std.specs.Prelude.{◌≡◌};
 ghost use Rattle.action.specs.Corners.{corners_in_order};
 ghost use Rattle.action.specs.Ends.{short_end, short_ends};
 
-use crate::numbers::{Format, LinePrimitive};
+use crate::numbers::Format;
 use units::{LengthInSixteenths, Pixels, Sixteenths};
 
 // Left and top are in, right and bottom are not: a top left pixel and a size, as document 01 has scissors and bitmaps,
@@ -65,13 +65,13 @@ impl End {
     }
 }
 
-// The ends in the order given, the line width, and the primitive.
+// The ends in the order given, the line width, and the primitive: 3 for LINES, 4 for LINE_STRIP.
 #[derive(Clone, Copy, PartialEq, Eq)]
 pub struct Segment {
     pub from: End,
     pub to: End,
     pub width: LengthInSixteenths,
-    pub primitive: LinePrimitive,
+    pub primitive: u32,
 }
 
 impl Segment {

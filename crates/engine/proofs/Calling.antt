@@ -6,8 +6,6 @@ use lib.Dec.{eqb, leb}
 use borrow.Author.Tests.{eqb-false, leb-false}
 use Rattle.truth.proofs.Bools.{by-test}
 use Rattle.std.specs.Prelude.{Option, Some, None}
-use Rattle.action.specs.declared.numbers.LinePrimitive.{LinePrimitive}
-use Rattle.action.specs.declared.numbers.LinePrimitive.TheVariants as l
 use Rattle.action.specs.declared.shape.Bitmap.{Bitmap}
 use Rattle.action.specs.declared.shape.End.{End}
 use Rattle.action.specs.Ends.{short_ends}
@@ -112,7 +110,7 @@ bitmap-ready : (m : Machine) (b : Option Bitmap) → Ready (bitmapped b) m
 bitmap-ready m (Some b) = tt
 bitmap-ready m None = tt
 
-linked-ready : (m : Machine) (v : Vertex) (primitive : LinePrimitive) (next from : Option End) → ReadyStep (linked m v primitive next from)
+linked-ready : (m : Machine) (v : Vertex) (primitive : ℕ) (next from : Option End) → ReadyStep (linked m v primitive next from)
 unfolding segmented
 linked-ready m v primitive next (Some from) =
     by-test (λ event. Ready event (with_corner m next)) (short_ends (segment_from from v m.context.placing.linewidth primitive)) (λ _. tt) (λ _. tt)
@@ -125,8 +123,8 @@ cornered-ready m v None = tt
 drawn-ready : (m : Machine) (hs : Handles) (memory : ℕ) (v : Vertex) (o : Option Primitive) → ReadyStep (drawn_by m hs memory v o)
 drawn-ready m hs memory v (Some p.Bitmaps) = bitmap-ready m (bitmap_at hs v memory)
 drawn-ready m hs memory v (Some p.Points) = tt
-drawn-ready m hs memory v (Some p.Lines) = linked-ready m v l.Lines None m.corner
-drawn-ready m hs memory v (Some p.LineStrip) = linked-ready m v l.LineStrip _ m.corner
+drawn-ready m hs memory v (Some p.Lines) = linked-ready m v 3 None m.corner
+drawn-ready m hs memory v (Some p.LineStrip) = linked-ready m v 4 _ m.corner
 drawn-ready m hs memory v (Some p.Rects) = cornered-ready m v m.corner
 drawn-ready m hs memory v None = tt
 

@@ -2,8 +2,6 @@
 -- 'then the translation is added', and the rows 17 and 18 of 'Number table'; wish 1 of document 02.
 use Rattle.std.specs.Prelude.{cond, Option, Some, None, ℕ, ◌-◌, ◌*◌, ◌^◌, ℤ, pos, ◌+ℤ◌, ◌*ℤ◌}
 use Rattle.units.specs.Units.{sixteenth_at, meant_translation}
-use Rattle.action.specs.declared.numbers.LinePrimitive.{LinePrimitive}
-use Rattle.action.specs.declared.numbers.LinePrimitive.TheVariants as l
 use Rattle.action.specs.declared.shape.Bitmap.{Bitmap}
 use Rattle.action.specs.declared.shape.End.{End}
 use Rattle.action.specs.declared.shape.Segment.{Segment}
@@ -67,16 +65,16 @@ cornered m v None = record { machine = with_corner m (Some (end_at v)); event = 
 cornered m v (Some corner) = record { machine = with_corner m None; event = rectangled corner v m.context.placing.linewidth }
 
 -- LINES. 'Ends are placed as corners are and compared in the order given; a segment uses the state at its second end.'
-unfoldable pub segment_from : End → Vertex → ℕ → LinePrimitive → Segment
+unfoldable pub segment_from : End → Vertex → ℕ → ℕ → Segment
 segment_from from v width primitive = record { from = from; to = end_at v; width = record { 0 = width }; primitive = primitive }
 
 -- '20 when an end lies outside -32768..32767 sixteenths, .. at the vertex that completes the segment'
 unfoldable pub segmented : Segment → Event
 segmented d = cond (short_ends d) (e.Draw (s.Segment d)) (e.Fault (fault_number fault.EndTooFar))
 
--- a vertex that finds no open end opens one; else it completes a segment of the primitive and leaves `next`, an
+-- a vertex that finds no open end opens one; else it completes a segment of the primitive's number and leaves `next`, an
 -- open end or none
-abbrev pub linked : Machine → Vertex → LinePrimitive → Option End → Option End → Stepped
+abbrev pub linked : Machine → Vertex → ℕ → Option End → Option End → Stepped
 linked m v primitive next None = record { machine = with_corner m (Some (end_at v)); event = e.Quiet }
 linked m v primitive next (Some from) =
     record { machine = with_corner m next; event = segmented (segment_from from v m.context.placing.linewidth primitive) }
@@ -85,8 +83,8 @@ linked m v primitive next (Some from) =
 abbrev pub drawn_by : Machine → Handles → ℕ → Vertex → Option Primitive → Stepped
 drawn_by m hs memory v (Some p.Bitmaps) = record { machine = m; event = bitmapped (bitmap_at hs v memory) }
 drawn_by m hs memory v (Some p.Points) = record { machine = m; event = pointed v m.context.placing.pointsize }
-drawn_by m hs memory v (Some p.Lines) = linked m v l.Lines None m.corner
-drawn_by m hs memory v (Some p.LineStrip) = linked m v l.LineStrip (Some (end_at v)) m.corner
+drawn_by m hs memory v (Some p.Lines) = linked m v 3 None m.corner
+drawn_by m hs memory v (Some p.LineStrip) = linked m v 4 (Some (end_at v)) m.corner
 drawn_by m hs memory v (Some p.Rects) = cornered m v m.corner
 drawn_by m hs memory v None = record { machine = m; event = e.Fault (fault_number fault.NothingBegun) }
 

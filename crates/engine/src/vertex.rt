@@ -9,7 +9,7 @@ use crate::drawn::Primitive;
 use crate::fault::Fault;
 use crate::handles::Handles;
 use crate::machine::{Event, Machine, Shape, Stepped};
-use action::{End, LinePrimitive, Point, Rectangle, Segment};
+use action::{End, Point, Rectangle, Segment};
 use units::{LengthInSixteenths, Pixels, Sixteenths};
 
 // A vertex placed on the screen, with the handle and cell that it draws if BITMAPS is begun.
@@ -89,7 +89,7 @@ fn rectangle_event(c: End, v: Vertex, width: u32) -> Event
 
 // The segment from the open end to the vertex.
 #[tactic(auto, unfolding(crate::specs::Vertex::segmented, crate::specs::Vertex::segment_from))]
-fn segment_event(from: End, v: Vertex, width: u32, primitive: LinePrimitive) -> Event
+fn segment_event(from: End, v: Vertex, width: u32, primitive: u32) -> Event
     ensures { result ≡ segmented (segment_from from v width primitive) }
 {
     let drawn = Segment {
@@ -126,14 +126,14 @@ impl Machine {
             Some(Primitive::Bitmaps) => bitmap_event(handles, v, memory),
             Some(Primitive::Points) => point_event(v, self.context.placing.pointsize),
             Some(Primitive::Lines) => match self.corner.take() {
-                Some(from) => segment_event(from, v, width, LinePrimitive::Lines),
+                Some(from) => segment_event(from, v, width, 3),
                 None => {
                     self.corner = Some(v.end());
                     Event::Quiet
                 }
             },
             Some(Primitive::LineStrip) => match self.corner.replace(v.end()) {
-                Some(from) => segment_event(from, v, width, LinePrimitive::LineStrip),
+                Some(from) => segment_event(from, v, width, 4),
                 None => Event::Quiet,
             },
             Some(Primitive::Rects) => match self.corner.take() {

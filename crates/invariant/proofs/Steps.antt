@@ -6,8 +6,6 @@ use native.Mathlib.Omega.{arith}
 use lib.Dec.{eqb, ltb}
 use Rattle.truth.proofs.Bools.{by-test}
 use Rattle.std.specs.Prelude.{Option, Some, None}
-use Rattle.action.specs.declared.numbers.LinePrimitive.{LinePrimitive}
-use Rattle.action.specs.declared.numbers.LinePrimitive.TheVariants as l
 use Rattle.action.specs.declared.shape.Bitmap.{Bitmap}
 use Rattle.action.specs.declared.shape.End.{End}
 use Rattle.action.specs.declared.shape.Segment.{Segment}
@@ -59,7 +57,7 @@ bitmap-orderly m None = tt
 
 -- it changes nothing but the open corner or end
 module _ (m : Machine) (valid : ValidMachine m) where
-  end-valid : (v : Vertex) (primitive : LinePrimitive) (next from : Option End) → ValidStepped (linked m v primitive next from)
+  end-valid : (v : Vertex) (primitive : ℕ) (next from : Option End) → ValidStepped (linked m v primitive next from)
   end-valid v primitive next None = record { machine = with-corner valid _; event = tt }
   end-valid v primitive next (Some from) = record { machine = with-corner valid next; event = segment-orderly (with_corner m next) _ }
 
@@ -72,8 +70,8 @@ module _ (m : Machine) (valid : ValidMachine m) where
   unfolding drawing_of
   drawn-valid hs memory v (Some p.Bitmaps) = record { machine = valid; event = bitmap-orderly m (bitmap_at hs v memory) }
   drawn-valid hs memory v (Some p.Points) = record { machine = valid; event = λ c. tt }
-  drawn-valid hs memory v (Some p.Lines) = end-valid v l.Lines None m.corner
-  drawn-valid hs memory v (Some p.LineStrip) = end-valid v l.LineStrip _ m.corner
+  drawn-valid hs memory v (Some p.Lines) = end-valid v 3 None m.corner
+  drawn-valid hs memory v (Some p.LineStrip) = end-valid v 4 _ m.corner
   drawn-valid hs memory v (Some p.Rects) = corner-valid v m.corner
   drawn-valid hs memory v None = record { machine = valid; event = tt }
 

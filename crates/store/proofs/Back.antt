@@ -5,7 +5,7 @@ use Prim.Native.Nat.{ℕ, ◌≤◌}
 use native.Mathlib.Omega.{arith}
 use lib.Dec.{lit≤}
 use lib.ListN.{length, drop}
-use Rattle.action.proofs.Naming.{test-of, stencil-action-of, factor-of, format-of, line-primitive-of}
+use Rattle.action.proofs.Naming.{test-of, stencil-action-of, factor-of, format-of}
 use Rattle.action.specs.declared.Action.{Action}
 use Rattle.action.specs.declared.Drawing.{Drawing}
 use Rattle.action.specs.declared.Drawing.TheVariants as d
@@ -33,7 +33,7 @@ drawing-back masks area (d.Rectangle rectangle ink) ns ps =
 drawing-back masks area (d.Bitmap bitmap ink) ns ps =
     rw format-of (ap (λ i. d.Bitmap bitmap i) (ink-back masks 3 ink (bitmap_numbers bitmap) ns))
 drawing-back masks area (d.Segment segment ink) ns ps =
-    rw line-primitive-of (ap (λ i. d.Segment segment i) (ink-back masks 4 ink (segment_numbers segment) ns))
+    ap (λ i. d.Segment segment i) (ink-back masks 4 ink (segment_numbers segment) ns)
 
 -- whatever stands behind
 pub action-back : (action : Action) (ns ps : List ℕ) → action_of (numbers_of action ++ ns) (places_of action ++ ps) ≡ action

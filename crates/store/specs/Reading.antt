@@ -4,7 +4,7 @@ use Rattle.std.specs.Prelude.{ℕ, suc, cond, List, eqb, get_or}
 use Rattle.units.specs.declared.LengthInSixteenths.{LengthInSixteenths}
 use Rattle.units.specs.declared.Pixels.{Pixels}
 use Rattle.units.specs.declared.Sixteenths.{Sixteenths}
-use Rattle.action.specs.Numbers.{test_of, stencil_action_of, factor_of, format_of, line_primitive_of}
+use Rattle.action.specs.Numbers.{test_of, stencil_action_of, factor_of, format_of}
 use Rattle.action.specs.declared.Action.{Action}
 use Rattle.action.specs.declared.Drawing.{Drawing}
 use Rattle.action.specs.declared.Drawing.TheVariants as d
@@ -107,7 +107,7 @@ abbrev pub end_at : List ℕ → ℕ → End
 end_at ps i = record { x = sixteenths_at ps i; y = sixteenths_at ps (suc i) }
 
 unfoldable pub segment_of : List ℕ → List ℕ → Segment
-segment_of ns ps = record { from = end_at ps 4; to = end_at ps 6; width = length_at ns 21; primitive = line_primitive_of (at ns 22) }
+segment_of ns ps = record { from = end_at ps 4; to = end_at ps 6; width = length_at ns 21; primitive = at ns 22 }
 
 -- by the kind: 0 a clear, 1 a point, 2 a rectangle, 3 a bitmap, any other a segment
 unfoldable pub drawing_of : List ℕ → List ℕ → Drawing

@@ -1,6 +1,6 @@
 -- The numbers and places of an action, in the order in which Reading reads them. That they are read back as the action is a theorem (proofs/Back.antt).
 use Rattle.std.specs.Prelude.{ℕ, suc, List, [], ◌∷◌, ◌++◌, set}
-use Rattle.action.specs.Numbers.{test_number, stencil_action_number, factor_number, format_number, line_primitive_number}
+use Rattle.action.specs.Numbers.{test_number, stencil_action_number, factor_number, format_number}
 use Rattle.action.specs.declared.Action.{Action}
 use Rattle.action.specs.declared.Drawing.{Drawing}
 use Rattle.action.specs.declared.Drawing.TheVariants as d
@@ -56,7 +56,7 @@ abbrev pub bitmap_numbers : Bitmap → List ℕ
 bitmap_numbers b = b.start ∷ format_number b.format ∷ b.stride ∷ b.height ∷ []
 
 abbrev pub segment_numbers : Segment → List ℕ
-segment_numbers s = s.width.0 ∷ line_primitive_number s.primitive ∷ []
+segment_numbers s = s.width.0 ∷ s.primitive ∷ []
 
 abbrev pub area_places : Area → List ℕ
 area_places a = a.left.0 ∷ a.top.0 ∷ a.right.0 ∷ a.bottom.0 ∷ []

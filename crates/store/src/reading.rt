@@ -5,8 +5,8 @@ ghost use Rattle.store.specs.Reading.{masks_of, clear_of, ink_of, scissor_of, po
 use crate::{BITMAP, CLEAR, NUMBERS, PLACES, POINT, RECTANGLE};
 use action::{
     Action, AlphaTest, Area, Bitmap, Blend, Clear, ClearValues, Colour, Drawing, End, Factor,
-    Format, Ink, LinePrimitive, Masks, Point, Rectangle, Segment, StencilAction, StencilActions,
-    StencilTest, Test,
+    Format, Ink, Masks, Point, Rectangle, Segment, StencilAction, StencilActions, StencilTest,
+    Test,
 };
 use units::{LengthInSixteenths, Pixels, Sixteenths};
 
@@ -151,7 +151,7 @@ impl Slot<'_> {
                 y: Sixteenths(self.places[7]),
             },
             width: LengthInSixteenths(self.numbers[21]),
-            primitive: LinePrimitive::from(self.numbers[22]),
+            primitive: self.numbers[22],
         }
     }
 

@@ -84,7 +84,7 @@ fn put_drawing_numbers(drawing: Drawing, numbers: &mut [u32; NUMBERS])
         Drawing::Segment(segment, ink) => {
             put_ink(SEGMENT, ink, numbers);
             numbers[21] = segment.width.0;
-            numbers[22] = u32::from(segment.primitive);
+            numbers[22] = segment.primitive;
         }
     }
 }

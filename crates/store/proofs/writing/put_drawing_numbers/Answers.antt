@@ -10,4 +10,4 @@ pub returns-in-Bitmap : goal.returns-in-Bitmap
 returns-in-Bitmap c = rw (c.in-Bitmap.is, c.put_ink-in-Bitmap.ensures, c.from.ensures)
 
 pub returns-in-Segment : goal.returns-in-Segment
-returns-in-Segment c = rw (c.in-Segment.is, c.put_ink-in-Segment.ensures, c.from-in-Segment.ensures)
+returns-in-Segment c = rw (c.in-Segment.is, c.put_ink-in-Segment.ensures)
