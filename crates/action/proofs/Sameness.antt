@@ -1,5 +1,5 @@
--- The derived `==` tells whether two values are equal. The check finds it of a short type alone; here it is shown of an
--- ink, a bitmap, a drawing and an action. Assumes nothing.
+-- The derived `==` tells whether two values are equal, of each type. The check finds what `is` promises by itself, but of
+-- an ink, a drawing and an action; their proofs cite what is shown here. Assumes nothing.
 use mathlib.Core.Path.{◌≡◌, refl}
 use mathlib.Core.Bool.{Bool, true}
 use Rattle.std.proofs.Common.{rules}
@@ -14,6 +14,14 @@ use Rattle.action.specs.declared.ink.StencilActions.{StencilActions}
 use Rattle.action.specs.declared.ink.Blend.{Blend}
 use Rattle.action.specs.declared.ink.Clear.{Clear}
 use Rattle.action.specs.declared.ink.Ink.{Ink}
+use Rattle.action.specs.declared.ink.Masks.{Masks}
+use Rattle.action.specs.declared.ink.ClearValues.{ClearValues}
+use Rattle.action.specs.declared.numbers.Test.{Test}
+use Rattle.action.specs.declared.numbers.StencilAction.{StencilAction}
+use Rattle.action.specs.declared.numbers.Factor.{Factor}
+use Rattle.action.specs.declared.numbers.Format.{Format}
+use Rattle.action.specs.declared.shape.Area.{Area}
+use Rattle.action.specs.declared.shape.End.{End}
 use Rattle.action.specs.declared.shape.Bitmap.{Bitmap}
 use Rattle.action.specs.declared.shape.Point.{Point}
 use Rattle.action.specs.declared.shape.Rectangle.{Rectangle}
@@ -28,6 +36,14 @@ use Rattle.action.specs.contracts.ink.StencilActionsPartialEq.TheImpl as actions
 use Rattle.action.specs.contracts.ink.BlendPartialEq.TheImpl as blend
 use Rattle.action.specs.contracts.ink.ClearPartialEq.TheImpl as clear
 use Rattle.action.specs.contracts.ink.InkPartialEq.TheImpl as ink
+use Rattle.action.specs.contracts.ink.MasksPartialEq.TheImpl as masks
+use Rattle.action.specs.contracts.ink.ClearValuesPartialEq.TheImpl as values
+use Rattle.action.specs.contracts.numbers.TestPartialEq.TheImpl as test
+use Rattle.action.specs.contracts.numbers.StencilActionPartialEq.TheImpl as stencil_action
+use Rattle.action.specs.contracts.numbers.FactorPartialEq.TheImpl as factor
+use Rattle.action.specs.contracts.numbers.FormatPartialEq.TheImpl as format
+use Rattle.action.specs.contracts.shape.AreaPartialEq.TheImpl as area
+use Rattle.action.specs.contracts.shape.EndPartialEq.TheImpl as end
 use Rattle.action.specs.contracts.shape.BitmapPartialEq.TheImpl as bitmap
 use Rattle.action.specs.contracts.shape.PointPartialEq.TheImpl as point
 use Rattle.action.specs.contracts.shape.RectanglePartialEq.TheImpl as rectangle
@@ -35,17 +51,38 @@ use Rattle.action.specs.contracts.shape.SegmentPartialEq.TheImpl as segment
 use Rattle.action.specs.Same.{Tells}
 use Rattle.action.proofs.Telling.{◌beside◌, tells-by, tells-number}
 
-clear_tells : (a b : Clear) → Tells ((clear.ghosts).eq a b) (a ≡ b)
+pub test_tells : (a b : Test) → Tells ((test.ghosts).eq a b) (a ≡ b)
+test_tells a b = search rules
+
+pub stencil_action_tells : (a b : StencilAction) → Tells ((stencil_action.ghosts).eq a b) (a ≡ b)
+stencil_action_tells a b = search rules
+
+pub factor_tells : (a b : Factor) → Tells ((factor.ghosts).eq a b) (a ≡ b)
+factor_tells a b = search rules
+
+pub format_tells : (a b : Format) → Tells ((format.ghosts).eq a b) (a ≡ b)
+format_tells a b = search rules
+
+pub values_tells : (a b : ClearValues) → Tells ((values.ghosts).eq a b) (a ≡ b)
+values_tells a b = search rules
+
+pub clear_tells : (a b : Clear) → Tells ((clear.ghosts).eq a b) (a ≡ b)
 clear_tells a b = search rules
 
-point_tells : (a b : Point) → Tells ((point.ghosts).eq a b) (a ≡ b)
+pub point_tells : (a b : Point) → Tells ((point.ghosts).eq a b) (a ≡ b)
 point_tells a b = search rules
 
-rectangle_tells : (a b : Rectangle) → Tells ((rectangle.ghosts).eq a b) (a ≡ b)
+pub rectangle_tells : (a b : Rectangle) → Tells ((rectangle.ghosts).eq a b) (a ≡ b)
 rectangle_tells a b = search rules
 
-segment_tells : (a b : Segment) → Tells ((segment.ghosts).eq a b) (a ≡ b)
+pub end_tells : (a b : End) → Tells ((end.ghosts).eq a b) (a ≡ b)
+end_tells a b = search rules
+
+pub segment_tells : (a b : Segment) → Tells ((segment.ghosts).eq a b) (a ≡ b)
 segment_tells a b = search rules
+
+pub area_tells : (a b : Area) → Tells ((area.ghosts).eq a b) (a ≡ b)
+area_tells a b = search rules
 
 pub bitmap_tells : (a b : Bitmap) → Tells ((bitmap.ghosts).eq a b) (a ≡ b)
 bitmap_tells a b =
@@ -53,26 +90,29 @@ bitmap_tells a b =
     (λ (it : Bitmap). (it.area, (it.start, (it.format, (it.stride, it.height)))))
     (λ p. record { area = p.0; start = p.1.0; format = p.1.1.0; stride = p.1.1.1.0; height = p.1.1.1.1 })
     (λ _. refl)
-    (search rules
+    (area_tells a.area b.area
     beside (tells-number a.start b.start
-    beside (search rules
+    beside (format_tells a.format b.format
     beside (tells-number a.stride b.stride
     beside tells-number a.height b.height))))
 
-colour_tells : (a b : Colour) → Tells ((colour.ghosts).eq a b) (a ≡ b)
+pub colour_tells : (a b : Colour) → Tells ((colour.ghosts).eq a b) (a ≡ b)
 colour_tells a b = search rules
 
-alpha_tells : (a b : AlphaTest) → Tells ((alpha.ghosts).eq a b) (a ≡ b)
+pub alpha_tells : (a b : AlphaTest) → Tells ((alpha.ghosts).eq a b) (a ≡ b)
 alpha_tells a b = search rules
 
-stencil_tells : (a b : StencilTest) → Tells ((stencil.ghosts).eq a b) (a ≡ b)
+pub stencil_tells : (a b : StencilTest) → Tells ((stencil.ghosts).eq a b) (a ≡ b)
 stencil_tells a b = search rules
 
-actions_tells : (a b : StencilActions) → Tells ((actions.ghosts).eq a b) (a ≡ b)
+pub actions_tells : (a b : StencilActions) → Tells ((actions.ghosts).eq a b) (a ≡ b)
 actions_tells a b = search rules
 
-blend_tells : (a b : Blend) → Tells ((blend.ghosts).eq a b) (a ≡ b)
+pub blend_tells : (a b : Blend) → Tells ((blend.ghosts).eq a b) (a ≡ b)
 blend_tells a b = search rules
+
+pub masks_tells : (a b : Masks) → Tells ((masks.ghosts).eq a b) (a ≡ b)
+masks_tells a b = search rules
 
 pub ink_tells : (a b : Ink) → Tells ((ink.ghosts).eq a b) (a ≡ b)
 ink_tells a b =
@@ -134,7 +174,9 @@ action_tells a b =
     (λ (it : Action). (it.scissor, (it.masks, it.drawing)))
     (λ p. record { scissor = p.0; masks = p.1.0; drawing = p.1.1 })
     (λ _. refl)
-    (search rules beside (search rules beside drawing_tells a.drawing b.drawing))
+    (area_tells a.scissor b.scissor
+    beside (masks_tells a.masks b.masks
+    beside drawing_tells a.drawing b.drawing))
 
 -- as the clause of `a == b` has it
 pub action_told : {answer : Bool} (a b : Action) → answer ≡ (action.ghosts).eq a b → Tells answer (a ≡ b)

@@ -1,6 +1,10 @@
 // A drawing action: the values of one CLEAR, point, rectangle, bitmap or segment of a line, as documents 01 and 02 list
-// them. Two actions are compared by these values alone, so `==` is derived throughout.
+// them. Two actions are compared by these values alone, so `==` is derived throughout. The law of `Eq` asks for an
+// equivalence only, so `is` promises of each type that `==` is true exactly where two values are equal.
 #![tactic(auto)]
+
+ghost use Rattle.std.specs.Prelude.{◌≡◌};
+ghost use Rattle.action.specs.Same.{Tells};
 
 mod ink;
 mod numbers;
@@ -21,9 +25,25 @@ pub enum Drawing {
     Segment(Segment, Ink),
 }
 
+impl Drawing {
+    pub fn is(self, other: Drawing) -> bool
+        ensures { Tells result (self ≡ other) }
+    {
+        self == other
+    }
+}
+
 #[derive(Clone, Copy, PartialEq, Eq)]
 pub struct Action {
     pub scissor: Area,
     pub masks: Masks,
     pub drawing: Drawing,
+}
+
+impl Action {
+    pub fn is(self, other: Action) -> bool
+        ensures { Tells result (self ≡ other) }
+    {
+        self == other
+    }
 }

@@ -2,6 +2,7 @@
 // No word with another number reaches an action, so a number that names nothing may give any case: it gives the last.
 ghost use Rattle.std.specs.Prelude.{◌≡◌};
 ghost use Rattle.action.specs.Numbers.{test_of, test_number, stencil_action_of, stencil_action_number, factor_of, factor_number, format_of, format_number};
+ghost use Rattle.action.specs.Same.{Tells};
 
 #[derive(Clone, Copy, PartialEq, Eq)]
 pub enum Test {
@@ -13,6 +14,14 @@ pub enum Test {
     Equal = 5,
     NotEqual = 6,
     Always = 7,
+}
+
+impl Test {
+    pub fn is(self, other: Test) -> bool
+        ensures { Tells result (self ≡ other) }
+    {
+        self == other
+    }
 }
 
 impl From<u32> for Test {
@@ -53,6 +62,14 @@ pub enum StencilAction {
     Invert = 5,
 }
 
+impl StencilAction {
+    pub fn is(self, other: StencilAction) -> bool
+        ensures { Tells result (self ≡ other) }
+    {
+        self == other
+    }
+}
+
 impl From<u32> for StencilAction {
     ghost from_gives = { λ n named. named ≡ stencil_action_of n };
 
@@ -89,6 +106,14 @@ pub enum Factor {
     OneMinusDstAlpha = 5,
 }
 
+impl Factor {
+    pub fn is(self, other: Factor) -> bool
+        ensures { Tells result (self ≡ other) }
+    {
+        self == other
+    }
+}
+
 impl From<u32> for Factor {
     ghost from_gives = { λ n named. named ≡ factor_of n };
 
@@ -120,6 +145,14 @@ pub enum Format {
     Argb1555 = 0,
     L8 = 3,
     Rgb565 = 7,
+}
+
+impl Format {
+    pub fn is(self, other: Format) -> bool
+        ensures { Tells result (self ≡ other) }
+    {
+        self == other
+    }
 }
 
 impl From<u32> for Format {

@@ -2,6 +2,7 @@
 ghost use Rattle.std.specs.Prelude.{◌≡◌};
 ghost use Rattle.action.specs.Corners.{corners_in_order};
 ghost use Rattle.action.specs.Ends.{short_end, short_ends};
+ghost use Rattle.action.specs.Same.{Tells};
 
 use crate::numbers::Format;
 use units::{LengthInSixteenths, Pixels, Sixteenths};
@@ -16,11 +17,27 @@ pub struct Area {
     pub bottom: Pixels,
 }
 
+impl Area {
+    pub fn is(self, other: Area) -> bool
+        ensures { Tells result (self ≡ other) }
+    {
+        self == other
+    }
+}
+
 #[derive(Clone, Copy, PartialEq, Eq)]
 pub struct Point {
     pub x: Sixteenths,
     pub y: Sixteenths,
     pub size: LengthInSixteenths,
+}
+
+impl Point {
+    pub fn is(self, other: Point) -> bool
+        ensures { Tells result (self ≡ other) }
+    {
+        self == other
+    }
 }
 
 // The corners in order, x and y apart, and the line width.
@@ -34,6 +51,12 @@ pub struct Rectangle {
 }
 
 impl Rectangle {
+    pub fn is(self, other: Rectangle) -> bool
+        ensures { Tells result (self ≡ other) }
+    {
+        self == other
+    }
+
     // The one of two corners, which are put in order, x and y apart.
     #[tactic(auto, unfolding(crate::specs::Corners::corners_in_order))]
     pub fn of(a: End, b: End, width: LengthInSixteenths) -> Rectangle
@@ -57,6 +80,12 @@ pub struct End {
 }
 
 impl End {
+    pub fn is(self, other: End) -> bool
+        ensures { Tells result (self ≡ other) }
+    {
+        self == other
+    }
+
     #[tactic(auto, unfolding(crate::specs::Ends::short_end))]
     fn is_short(self) -> bool
         ensures { result ≡ short_end self }
@@ -75,6 +104,12 @@ pub struct Segment {
 }
 
 impl Segment {
+    pub fn is(self, other: Segment) -> bool
+        ensures { Tells result (self ≡ other) }
+    {
+        self == other
+    }
+
     // Whether it may be drawn: an end further out is refused.
     #[tactic(auto, unfolding(crate::specs::Ends::short_ends))]
     pub fn is_short(self) -> bool
@@ -92,4 +127,12 @@ pub struct Bitmap {
     pub format: Format,
     pub stride: u32,
     pub height: u32,
+}
+
+impl Bitmap {
+    pub fn is(self, other: Bitmap) -> bool
+        ensures { Tells result (self ≡ other) }
+    {
+        self == other
+    }
 }
