@@ -40,8 +40,10 @@ pub struct Settings {
     pub size_high: Size,
 }
 
-#[derive(Drop)]
-pub struct Handles([Settings; 32]);
+// The settings of the 32 handles. The field is public, so that who calls `advance` can start with any settings and read
+// them afterwards.
+#[derive(Clone, Copy)]
+pub struct Handles(pub [Settings; 32]);
 
 // What the words of one handle come to, main words and H words together.
 #[derive(Clone, Copy)]
