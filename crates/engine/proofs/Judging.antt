@@ -2,6 +2,7 @@
 use mathlib.Core.Path.{◌≡◌}
 use mathlib.Core.Bool.{true}
 use Prim.Native.Nat.{ℕ, ◌+◌, ◌*◌, ◌<◌, ◌≤◌}
+use native.Mathlib.Nat.{mul_comm, le-mul_of_pos_right}
 use native.Mathlib.Omega.{arith}
 use borrow.Author.Tests.{ltb-true, leb-true, lt-ltb, le-leb}
 use Rattle.std.specs.Prelude.{Some, None}
@@ -19,9 +20,16 @@ pub record Drawn (h : Handle) (cell memory : ℕ) : Type 0 where
   pub inside : cell_start h cell + h.stride * h.rows ≤ memory
   pub aligned : aligned h ≡ true
 
--- where a cell starts, by how long a cell is
-pub start_by : (h : Handle) {cell n size : ℕ} → n ≡ cell → size ≡ h.stride * h.rows → n * size + h.source ≡ cell_start h cell
-start_by h e f = rw (e, f) (omega arith)
+-- where a cell starts, by the numbers read
+pub start_by : (h : Handle) {cell source n : ℕ} → source ≡ h.source → n ≡ cell → source + n * (h.stride * h.rows) ≡ cell_start h cell
+start_by h e f = rw (e, f)
+
+-- a cell in RAM_G has no line longer, and no more lines, than RAM_G has bytes
+pub line-fits : {h : Handle} {cell memory : ℕ} → Drawn h cell memory → h.stride ≤ memory
+line-fits {h} d = omega (arith, le-mul_of_pos_right h.stride d.rows)
+
+pub lines_fit : {h : Handle} {cell memory : ℕ} → Drawn h cell memory → h.rows ≤ memory
+lines_fit {h} d = omega (arith, mul_comm h.stride h.rows, le-mul_of_pos_right h.rows d.stride)
 
 told : (h : Handle) (cell memory : ℕ) → drawable h cell memory ≡ true → Drawn h cell memory
 unfolding drawable

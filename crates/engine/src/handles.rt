@@ -40,8 +40,10 @@ pub struct Settings {
     pub size_high: Size,
 }
 
-#[derive(Drop)]
-pub struct Handles([Settings; 32]);
+// The settings of the 32 handles. The field is public, so that who calls `advance` can start with any settings and read
+// them afterwards.
+#[derive(Clone, Copy)]
+pub struct Handles(pub [Settings; 32]);
 
 // What the words of one handle come to, main words and H words together.
 #[derive(Clone, Copy)]
@@ -178,21 +180,26 @@ impl Handle {
         self.format == 3 || (self.source % 2 == 0 && self.stride % 2 == 0)
     }
 
-    // The bitmap that the vertex draws, or none for number 18. What is too large for its type lies past RAM_G's end.
+    // The bitmap that the vertex draws, or none for number 18. A stride, a height or a cell larger than RAM_G is refused
+    // before it is multiplied, so that no product is too large for its type.
     #[tactic(auto, unfolding(crate::specs::Handles::bitmap_of))]
     fn judge(self, v: Vertex, memory: u32) -> Option<Bitmap>
         requires { Narrow self × (memory ≤ most_memory) }
         ensures { result ≡ judged self v memory }
     {
+        let room = u64::from(memory);
         if self.stride == 0 || self.rows == 0 || self.width.0 == 0 || self.height.0 == 0 {
             return None;
         }
-        let size = self.stride.checked_mul(self.rows)?;
-        let start = u64::from(v.cell)
-            .checked_mul(size)?
-            .checked_add(u64::from(self.source))?;
-        let end = start.checked_add(size)?;
-        if u64::from(memory) < end {
+        if room < self.stride || room < self.rows {
+            return None;
+        }
+        let size = self.stride * self.rows;
+        if room < size {
+            return None;
+        }
+        let start = u64::from(self.source) + u64::from(v.cell) * size;
+        if room < start + size {
             return None;
         }
         if !self.is_aligned() {

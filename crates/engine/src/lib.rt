@@ -2,7 +2,7 @@
 //
 // A `Screen` is a list that can be run: `finish` runs it to its end or fault, and of a `Run` of it `next` asks for one
 // drawing action after the other. Both stand on `advance`, which goes on from an engine to the next action, the end or the
-// fault. Their callers never see a word.
+// fault. The function `finish` runs a list where RAM_G's length alone is known. Their callers never see a word.
 #![tactic(auto)]
 
 mod command;
@@ -18,8 +18,8 @@ mod screen;
 mod vertex;
 
 pub use fault::Fault;
-pub use handles::Handles;
+pub use handles::{Handles, Layout, LayoutHigh, Settings, Size};
 pub use kept::Engine;
 pub use run::{Advanced, Find, Stop, advance};
-pub use running::{Ending, Run};
+pub use running::{Ending, Run, finish};
 pub use screen::Screen;

@@ -1,6 +1,6 @@
 // A screen's list run: to its end or fault at once, or from one drawing action to the next.
 ghost use Rattle.std.specs.Prelude.{◌≡◌};
-ghost use Rattle.engine.specs.Run.{ending_of, number_told, place_told};
+ghost use Rattle.engine.specs.Run.{WithinLimits, ending_of, number_told, place_told, run_of};
 ghost use Rattle.engine.specs.Running.{actions_in, actions_left, run_in};
 ghost use Rattle.std.specs.Iterator.{YieldsFirst, item_count};
 
@@ -33,6 +33,26 @@ impl Ending {
     }
 }
 
+// Runs a list from its start to its end or fault, where RAM_G has so many bytes.
+pub fn finish(list: &[u8], memory: u32, limit: u32) -> Ending
+    requires { WithinLimits list.now memory }
+    ensures { result ≡ ending_of (run_of list.now memory limit) }
+{
+    let mut handles = Handles::new();
+    let advanced = advance(Engine::start(), &mut handles, list, memory, limit, false);
+    match advanced.find {
+        // Actions are not asked for, so that none is found.
+        Find::Drew(_) => Ending {
+            stop: None,
+            count: 0,
+        },
+        Find::Over(stop) => Ending {
+            stop,
+            count: limit - advanced.left,
+        },
+    }
+}
+
 // A run that is asked for one drawing action after the other. `left` is how many words are still allowed.
 #[derive(Drop)]
 pub struct Run<'a> {
@@ -59,27 +79,7 @@ impl<'a> Screen<'a> {
     pub fn finish(&self) -> Ending
         ensures { result ≡ ending_of (run_in self.now) }
     {
-        let mut handles = Handles::new();
-        let memory = self.memory.len() as u32;
-        let advanced = advance(
-            Engine::start(),
-            &mut handles,
-            self.list,
-            memory,
-            self.limit,
-            false,
-        );
-        match advanced.find {
-            // Actions are not asked for, so that none is found.
-            Find::Drew(_) => Ending {
-                stop: None,
-                count: 0,
-            },
-            Find::Over(stop) => Ending {
-                stop,
-                count: self.limit - advanced.left,
-            },
-        }
+        finish(self.list, self.memory.len() as u32, self.limit)
     }
 }
 

@@ -37,6 +37,10 @@ format-named n e =
 pub numbers-meant : NumbersMeant
 numbers-meant = record {
   brushes = brush-named;
-  formats = λ hs v. record { format = λ handle layout e. format-named _ (v.format handle layout e) };
+  formats =
+      λ hs v. record {
+        format = λ handle layout e. format-named _ (v.format handle layout e);
+        drawn-with = λ handle h e. format-named _ (v.drawn-with handle h e);
+      };
   vertices = vertices-meant;
 }

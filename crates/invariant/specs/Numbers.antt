@@ -5,9 +5,10 @@ use Rattle.units.specs.Units.{meant_sixteenths, meant_translation}
 use Rattle.action.specs.Numbers.{test_number, test_of, stencil_action_number, stencil_action_of, factor_number, factor_of, format_number, format_of}
 use Rattle.engine.specs.declared.context.Brush.{Brush}
 use Rattle.engine.specs.declared.context.Placing.{Placing}
+use Rattle.engine.specs.declared.handles.Handle.{Handle}
 use Rattle.engine.specs.declared.handles.Handles.{Handles}
 use Rattle.engine.specs.declared.handles.Layout.{Layout}
-use Rattle.engine.specs.Handles.{settings_at}
+use Rattle.engine.specs.Handles.{settings_at, handle_at}
 use Rattle.engine.specs.Vertex.{unit_of, placed2f, placed2ii}
 use Rattle.words.specs.Fields.{InBits}
 use Rattle.invariant.specs.State.{ValidBrush, ValidPlacing, ValidHandles}
@@ -21,9 +22,11 @@ pub record NamedBrush (b : Brush) : Type 0 where
   pub source : factor_number (factor_of b.source) ≡ b.source
   pub target : factor_number (factor_of b.target) ≡ b.target
 
--- and each layout's number that of the format: row 13 refuses the formats that are not drawn
+-- and each layout's number that of the format, and so the number of each handle that a vertex draws with: row 13 refuses the formats that are not
+-- drawn
 pub record NamedFormats (hs : Handles) : Type 0 where
   pub format : (handle : ℕ) (layout : Layout) → (settings_at hs handle).layout ≡ Some layout → format_number (format_of layout.format) ≡ layout.format
+  pub drawn-with : (handle : ℕ) (h : Handle) → handle_at hs handle ≡ Some h → format_number (format_of h.format) ≡ h.format
 
 -- 'A VERTEX2F number is multiplied by 2^(4-frac), a VERTEX2II number by 16, then the translation is added.' A VERTEX2F number has 15 bits, signed, a
 -- VERTEX2II number 9: the position that is kept means just this integer, on either side of the screen's edge, and 4-frac is not below 0

@@ -9,11 +9,12 @@ use Rattle.words.specs.Fields.{InBits}
 use Rattle.engine.specs.declared.context.Brush.{Brush}
 use Rattle.engine.specs.declared.context.Context.{Context}
 use Rattle.engine.specs.declared.context.Placing.{Placing}
+use Rattle.engine.specs.declared.handles.Handle.{Handle}
 use Rattle.engine.specs.declared.handles.Handles.{Handles}
 use Rattle.engine.specs.declared.handles.Layout.{Layout}
 use Rattle.engine.specs.declared.machine.Machine.{Machine}
 use Rattle.engine.specs.Drawn.{drawn_format}
-use Rattle.engine.specs.Handles.{settings_at}
+use Rattle.engine.specs.Handles.{settings_at, handle_at}
 use Rattle.engine.specs.Run.{State, next_of, at_start, place_told, run_of}
 use Rattle.engine.specs.Saves.{Whole}
 use Rattle.invariant.specs.Each.{Each}
@@ -84,10 +85,11 @@ pub record ValidMachine (m : Machine) : Type 0 where
   pub calls : length m.calls ≡ 4
   pub depth : m.depth ≤ 4
 
--- THE HANDLES. Row 13 refuses a BITMAP_LAYOUT with a format that is not drawn
+-- THE HANDLES. Row 13 refuses a BITMAP_LAYOUT with a format that is not drawn, so that no vertex draws with one
 pub record ValidHandles (hs : Handles) : Type 0 where
   pub places : length hs.0 ≡ 32
   pub format : (handle : ℕ) (layout : Layout) → (settings_at hs handle).layout ≡ Some layout → drawn_format layout.format ≡ true
+  pub drawn-with : (handle : ℕ) (h : Handle) → handle_at hs handle ≡ Some h → drawn_format h.format ≡ true
 
 -- THE STATE. 'Four contexts are kept': what a restore loads is valid too
 pub record Valid (x : State) : Type 0 where

@@ -1,5 +1,5 @@
 use Rattle.engine.proofs.Endings.{within, never, ending}
-use Rattle.engine.proofs.screen.Screen.finish.Goals as goal
+use Rattle.engine.proofs.running.finish.Goals as goal
 
 pub overflow_sub-result : goal.overflow_sub-result
 overflow_sub-result c =
