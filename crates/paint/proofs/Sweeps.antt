@@ -18,8 +18,8 @@ use Rattle.pixel.specs.declared.Pixel.{Pixel}
 use Rattle.pixel.specs.declared.plain.Fill.{Fill}
 use Rattle.pixel.specs.Plain.{filled}
 use Rattle.shape.specs.declared.Chord.{Chord}
-use Rattle.shape.specs.Cover.{between, outline_of, outside}
-use Rattle.shape.specs.OneRow.{Reached, has_column, holds_in, near_enough}
+use Rattle.shape.specs.Cover.{between, outline_of, outside, reaches}
+use Rattle.shape.specs.OneRow.{has_column, holds_in, near_enough}
 use Rattle.shape.proofs.Bools.{between-true, between-made}
 use Rattle.units.specs.declared.Pixels.{Pixels}
 use Rattle.units.specs.Units.{PixelOf, pixel_at, count_before, sampled}
@@ -93,9 +93,6 @@ swept-wiped from to with colours tags alpha s swept =
       outside = λ k h. swept.outside k h ∙ same-pixel _ _ refl refl refl refl (s.outside k h) refl;
     }
 
-pub swept-still : (from to : ℕ) (old : ℕ → Pixel) → Swept from to (λ _ p. p) old old
-swept-still from to old = record { inside = λ k h l. refl; outside = λ k h. refl }
-
 abbrev away : Chord → ℕ → ℕ
 away chord x = outside (sampled (pixel_at x)) chord.near chord.far
 
@@ -157,19 +154,28 @@ module _ (chord : Chord) (width from to : ℕ) where
           (λ (b : (holds_in chord (pixel_at from) ≡ true) × (holds_in chord (pixel_at (to - 1)) ≡ true)). held-between chord from k (to - 1) t.0 (omega arith) b.0 b.1)
           ends)
 
--- those columns, swept, are those that the action reaches
-module _ (memory : List ℕ) (action : Action) (q : Pixels) (width : ℕ) (chord : Chord) (from to : ℕ) (old now : ℕ → Pixel) where
-  -- a step that does at each column what the drawing does
+-- the columns that the action reaches, swept by a step that does at each what the drawing does
+module _ (memory : List ℕ) (action : Action) (q : Pixels) (width from to : ℕ) (old now : ℕ → Pixel) where
   pub swept-drawn :
-      Reached (outline_of action.drawing) action.scissor width q chord →
-      ((k : ℕ) → k < width → has_column chord (pixel_at k) ≡ between from to k) →
+      ((k : ℕ) → k < width → reaches (outline_of action.drawing) action.scissor (pixel_at k) q ≡ between from to k) →
       {step : ℕ → Pixel → Pixel} → Swept from to step old now →
       ((k : ℕ) (p : Pixel) → step k p ≡ change memory action.masks action.drawing q k p) → Drawn memory action width q old now
   unfolding drawn_at
-  swept-drawn r exact s same x h =
-      rw (r.exact x h ∙ exact x h) (go (leb from x) (ltb x to) refl refl)
+  swept-drawn exact s same x h =
+      rw (exact x h) (go (leb from x) (ltb x to) refl refl)
     where
       go : (a b : Bool) → leb from x ≡ a → ltb x to ≡ b → now x ≡ cond (leb from x && ltb x to) (change memory action.masks action.drawing q x (old x)) (old x)
       go false b e f = rw e (s.outside x (inl (leb-false from x e)))
       go true false e f = rw (e, f) (s.outside x (inr (ltb-false x to f)))
       go true true e f = rw (e, f) (s.inside x (leb-true from x e) (ltb-true x to f) ∙ same x (old x))
+
+-- a drawing that changes no pixel leaves the row as it is
+pub still-drawn :
+    (memory : List ℕ) (action : Action) (q : Pixels) (width : ℕ) (old : ℕ → Pixel) →
+    ((k : ℕ) (p : Pixel) → change memory action.masks action.drawing q k p ≡ p) → Drawn memory action width q old old
+unfolding drawn_at
+still-drawn memory action q width old same x h = rw (same x (old x)) (sym (either (reaches (outline_of action.drawing) action.scissor (pixel_at x) q)))
+  where
+    either : (b : Bool) → cond b (old x) (old x) ≡ old x
+    either true = refl
+    either false = refl

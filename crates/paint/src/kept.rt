@@ -1,5 +1,5 @@
 // The drawing actions of a list, kept as numbers: a list is run once, and a row reads the actions that can reach it.
-ghost use Rattle.std.specs.Prelude.{◌<◌};
+ghost use Rattle.std.specs.Prelude.{None, ◌≡◌, ◌<◌};
 ghost use Rattle.engine.specs.Running.{actions_in};
 ghost use Rattle.paint.specs.Actions.{Gathers, Keeps, most_kept};
 
@@ -20,7 +20,9 @@ pub struct Kept {
 }
 
 impl Kept {
-    pub fn none() -> Kept {
+    pub fn none() -> Kept
+        ensures { result.count ≡ None }
+    {
         Kept {
             numbers: [0; store::NUMBERS * MOST],
             places: [0; store::PLACES * MOST],

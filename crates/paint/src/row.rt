@@ -1,8 +1,8 @@
-// One row in work, and one action drawn into it. `draw` shows the order: which columns the action reaches, and whether
-// it does the same to all of them; if not, they are drawn one by one.
+// One row in work, and one action drawn into it. `draw` shows the order: whether the action does the same to every pixel
+// that it covers, and which columns it reaches, unless it does nothing; if not the same, they are drawn one by one.
 ghost use Rattle.std.specs.Prelude.{ℕ, ◌≡◌, ◌<◌, ◌≤◌, ◌*◌, length};
 ghost use Rattle.pixel.specs.Plain.{filled};
-ghost use Rattle.shape.specs.Cover.{between};
+ghost use Rattle.shape.specs.Cover.{between, outline_of, reaches};
 ghost use Rattle.shape.specs.OneRow.{InFrame, has_column};
 ghost use Rattle.units.specs.Units.{pixel_at, widest};
 ghost use Rattle.paint.specs.Picture.{colours_of, tags_of};
@@ -69,6 +69,18 @@ fn columns(chord: Chord, width: u32) -> (usize, usize)
         to -= 1;
     }
     (from as usize, to as usize)
+}
+
+// The columns of row q that the action reaches in a frame of this width.
+fn reached(action: Action, q: Pixels, width: u32) -> (usize, usize)
+    requires { InFrame width q }
+    ensures exact { (k : ℕ) → k < width → reaches (outline_of action.drawing) action.scissor (pixel_at k) q ≡ between result.0 result.1 k }
+    ensures bounds { (result.0 ≤ result.1) × (result.1 ≤ widest) }
+{
+    columns(
+        reach::outline(action.drawing).reach(action.scissor, width, q),
+        width,
+    )
 }
 
 impl Row {
@@ -181,30 +193,38 @@ impl Row {
     {
         let drawing = action.drawing;
         let masks = action.masks;
-        let chord = reach::outline(drawing).reach(action.scissor, width, q);
-        let (from, to) = columns(chord, width);
         match plainly(drawing, masks) {
             Plain::Nothing => {}
-            Plain::Fill(with) => self.fill(from, to, with),
-            Plain::Wipe(with) => self.wipe(from, to, with),
-            Plain::Each => match drawing {
-                Drawing::Clear(clear) => self.sweep(
-                    from,
-                    to,
-                    |_, before| pixel::clear(clear, masks, before),
-                ),
-                Drawing::Point(_, ink) | Drawing::Rectangle(_, ink) | Drawing::Segment(_, ink) =>
-                    self.ink(from, to, ink, masks, None, q, memory),
-                Drawing::Bitmap(bitmap, ink) => self.ink(
-                    from,
-                    to,
-                    ink,
-                    masks,
-                    Some(bitmap),
-                    q,
-                    memory,
-                ),
-            },
+            Plain::Fill(with) => {
+                let (from, to) = reached(action, q, width);
+                self.fill(from, to, with);
+            }
+            Plain::Wipe(with) => {
+                let (from, to) = reached(action, q, width);
+                self.wipe(from, to, with);
+            }
+            Plain::Each => {
+                let (from, to) = reached(action, q, width);
+                match drawing {
+                    Drawing::Clear(clear) => self.sweep(
+                        from,
+                        to,
+                        |_, before| pixel::clear(clear, masks, before),
+                    ),
+                    Drawing::Point(_, ink)
+                    | Drawing::Rectangle(_, ink)
+                    | Drawing::Segment(_, ink) => self.ink(from, to, ink, masks, None, q, memory),
+                    Drawing::Bitmap(bitmap, ink) => self.ink(
+                        from,
+                        to,
+                        ink,
+                        masks,
+                        Some(bitmap),
+                        q,
+                        memory,
+                    ),
+                }
+            }
         }
     }
 
