@@ -12,7 +12,7 @@ use Rattle.engine.specs.declared.handles.LayoutHigh.{LayoutHigh}
 use Rattle.engine.specs.declared.handles.Settings.{Settings}
 use Rattle.engine.specs.declared.handles.Size.{Size}
 use Rattle.engine.specs.Drawn.{drawn_format}
-use Rattle.engine.specs.Handles.{unset, all_unset, put, sourced, laid_out, sized, laid_out_high, sized_high}
+use Rattle.engine.specs.Handles.{unset, all_unset, put, sourced, laid_out, sized, laid_out_high, sized_high, settings_at}
 use Rattle.invariant.specs.State.{ValidHandles}
 use Rattle.invariant.proofs.Lists.{set_at}
 
@@ -52,3 +52,8 @@ unset-valid = record {
   places = length-replicate {A = Settings} 32 unset;
   format = λ i layout e. absurd (none-some layout (sym (ap (λ (s : Settings). s.layout) (get_or-replicate 32 (i % 32) unset unset (omega arith))) ∙ e));
 }
+
+-- a handle's other settings put, its layout left as it is
+module _ {hs : Handles} (h : ℕ) (v : ValidHandles hs) where
+  put_other : (s : Settings) → s.layout ≡ (settings_at hs h).layout → ValidHandles (put hs h s)
+  put_other s e = put-valid h v s (λ layout f. v.format h layout (sym e ∙ f))
