@@ -49,3 +49,13 @@ round-trips = record {
 
     found : (bits : ℕ) (p : JvWord) → p ≡ read_told (spell_word bits) → p.number ≡ 0 → spell_word bits ≡ Ok (numbers_in p)
     found bits p h z = fields-of (spell_word bits) (spelt-five bits) (sym (ap (λ (x : JvWord). x.number) h) ∙ z) ∙ ap (λ (x : JvWord). Ok (numbers_in x)) (sym h)
+
+-- FROM THE CRATE `words` TO AN ANSWER.
+
+pub read_answer : (bits : ℕ) (found : Result Spelling WordFault) (answer : JvWord) → found ≡ spell_word bits → answer ≡ read_told found → ReadAnswer bits answer
+unfolding ReadAnswer
+read_answer bits found answer e h = h ∙ ap read_told e
+
+pub write-answer : (s : Spelling) (made : Result ℕ WordFault) (answer : JvBits) → made ≡ write_spelling s → answer ≡ written_told made → WriteAnswer s answer
+unfolding WriteAnswer
+write-answer s made answer e h = h ∙ ap written_told e

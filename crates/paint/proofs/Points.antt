@@ -7,6 +7,7 @@ use lib.ListN.{length, get_or, set, length-set}
 use lib.Seq.{get_or-set_same, get_or-set_other}
 use Rattle.pixel.specs.declared.Pixel.{Pixel}
 use Rattle.pixel.specs.declared.plain.Fill.{Fill}
+use Rattle.pixel.specs.Plain.{filled}
 use Rattle.paint.specs.Runs.{Touched, pixel_in}
 
 pub same-pixel :
@@ -90,5 +91,27 @@ module _ (x : ℕ) (colours tags alpha stencil : List ℕ) (p : Pixel) where
             (elsewhere colours x _ _ _ (3 * k + 2) (omega arith) (omega arith) (omega arith))
             (get_or-set_other alpha x k _ 0 n)
             (get_or-set_other stencil x k _ 0 n)
+            (get_or-set_other tags x k _ 0 n);
+      }
+
+-- a filling written, colour, alpha and tag
+module _ (x : ℕ) (picture tags alpha stencil : List ℕ) where
+  pub touched-fill :
+      (f : Fill) → 3 * x + 2 < length picture → x < length tags → x < length alpha →
+      Touched x (filled f) (pixel_in picture tags alpha stencil) (pixel_in (three picture x f.red f.green f.blue) (set tags x f.tag) (set alpha x f.alpha) stencil)
+  unfolding pixel_in filled
+  touched-fill f h t a =
+      record {
+        at =
+            same-pixel _ _ (red-back picture x _ _ _ h) (green-back picture x _ _ _ h) (blue-back picture x _ _ _ h)
+            (get_or-set_same alpha x _ 0 a)
+            refl
+            (get_or-set_same tags x _ 0 t);
+        other =
+            λ k n. same-pixel _ _ (elsewhere picture x _ _ _ (3 * k) (omega arith) (omega arith) (omega arith))
+            (elsewhere picture x _ _ _ (3 * k + 1) (omega arith) (omega arith) (omega arith))
+            (elsewhere picture x _ _ _ (3 * k + 2) (omega arith) (omega arith) (omega arith))
+            (get_or-set_other alpha x k _ 0 n)
+            refl
             (get_or-set_other tags x k _ 0 n);
       }

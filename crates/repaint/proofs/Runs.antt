@@ -3,7 +3,7 @@ use mathlib.Core.Bool.{Bool, true, false, ◌||◌}
 use mathlib.Core.List.{List}
 use mathlib.Core.Path.{◌≡◌, refl, sym, ◌∙◌, ap, subst}
 use Rattle.std.specs.Prelude.{Option, Some, None, is_some}
-use Prim.Native.Nat.{◌+◌, ◌<◌, ◌≤◌}
+use Prim.Native.Nat.{◌+◌, ◌<◌, ◌≤◌, ℕ}
 use native.Mathlib.Omega.{arith}
 use lib.ListN.{length}
 use Rattle.truth.proofs.Bools.{never}
@@ -15,6 +15,13 @@ use Rattle.engine.specs.Running.{actions_left}
 use Rattle.engine.specs.declared.running.Run.{Run}
 use Rattle.std.specs.Iterator.{YieldsFirst}
 use Rattle.repaint.specs.Rows.{passed, with_rest}
+use Rattle.engine.specs.Advance.{Advances, heard, then}
+use Rattle.engine.specs.Run.{Ran, run}
+use Rattle.engine.specs.declared.handles.Handles.{Handles}
+use Rattle.engine.specs.declared.kept.Engine.{Engine}
+use Rattle.engine.specs.declared.run.Advanced.{Advanced}
+use Rattle.engine.specs.declared.run.Find.{Find}
+use Rattle.engine.specs.declared.run.Find.TheVariants as f
 
 module _ (a : Bool) (find : Option Action) (rest : List Action) where
   -- a list does not grow
@@ -64,3 +71,21 @@ apart_here old new e s = go old (subst (λ (n : Option Action). option_eq (actio
     go : (find : Option Action) → option_eq (action.ghosts).eq find find ≡ false → ⊥
     go (Some a) f = never (sym f ∙ (action_tells a a).told refl)
     go None f = never (sym f)
+
+-- the action that a run came to, as `advance` tells it
+abbrev pub come_to : Find → Option Action
+come_to (f.Drew a) = Some a
+come_to (f.Over stop) = None
+
+then-actions : (k : ℕ) (find : Find) (rest : Ran) → (heard true (then k find rest)).actions ≡ with_rest (come_to find) rest.actions
+unfolding heard then with_rest
+then-actions k (f.Drew a) rest = refl
+then-actions k (f.Over stop) rest = refl
+
+module _ {list : List ℕ} {memory left : ℕ} {engine : Engine} {handles after : Handles} {next : Advanced}
+    (went : Advances list memory left true (record { engine = engine; handles = handles }) next after) where
+  -- what is ahead after a run went on
+  pub went_on : with_rest (come_to next.find) (run list memory next.left (record { engine = next.engine; handles = after })).actions
+      ≡ (run list memory left (record { engine = engine; handles = handles })).actions
+  unfolding heard
+  went_on = sym (ap (λ (r : Ran). r.actions) went.whole ∙ then-actions _ _ _)

@@ -2,7 +2,7 @@
 use mathlib.Core.Path.{◌≡◌, sym, ◌∙◌, ap}
 use mathlib.Core.List.{List, [], ◌++◌, append_assoc, append-nil}
 use Prim.Native.Nat.{ℕ, ◌+◌, ◌-◌, ◌≤◌, zero-le}
-use native.Mathlib.Nat.{add-sub_cancel_left, zero-add}
+use native.Mathlib.Nat.{add-sub_cancel_left, le_refl, zero-add}
 use native.Mathlib.Omega.{arith}
 use lib.ListN.{length, take, drop, replicate, length-drop, length-replicate, drop_of_length-le}
 use lib.Seq.{drop-drop, paste, take_all}
@@ -55,3 +55,14 @@ pub long-around : (at : ℕ) (words ring ring' : List ℕ) → ring' ≡ laid at
     → laid_around at words ring ≡ drop (4096 - at) words ++ drop (length (drop (4096 - at) words)) ring'
 unfolding laid_around laid
 long-around at words ring ring' e = rw (e, zero-add)
+
+-- a whole run copied over another of its length
+pub copied : (src dst : List ℕ) → length src ≡ length dst → take (length src) src ++ drop (length src) dst ≡ src
+copied src dst e =
+    let n : length dst ≤ length src = omega arith in
+    rw (take_all (length src) src (le_refl _), drop_of_length-le dst n, append-nil)
+
+-- a run copied over a part of another
+pub copied-over : (at count : ℕ) (run src new : List ℕ) → at + count ≤ length run → length src ≡ count → new ≡ src
+    → laid at src run ≡ take at run ++ (new ++ drop (at + count - at) (drop at run))
+copied-over at count run src new h n e = sym (rw e (laid-lent at count src run h n))

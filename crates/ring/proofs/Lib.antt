@@ -5,6 +5,7 @@ mod Numbering
 pub mod Places
 mod Refusing
 mod Running
+pub mod Sizes
 mod Stepping
 pub mod Steps
 mod Taking

@@ -3,6 +3,9 @@ use mathlib.Core.Path.{◌≡◌, ◌∙◌}
 use mathlib.Core.List.{List, [], ◌∷◌}
 use Prim.Native.Nat.{ℕ, ◌*◌, ◌<◌, ◌≤◌}
 use borrow.Author.Tests.{lt-ltb, le-ltb}
+use native.Mathlib.Omega.{arith}
+use Rattle.ring.specs.declared.command.Command.{Command}
+use Rattle.ring.specs.declared.command.Command.TheVariants as c
 use Rattle.ring.specs.declared.command.Fault.{Fault}
 use Rattle.ring.specs.declared.command.Taken.{Taken}
 use Rattle.ring.specs.declared.marks.Marks.{Marks}
@@ -37,3 +40,16 @@ module _ (ring : List ℕ) (m : Marks) (x : Runs) where
     pub step-fault : (why : Fault) (y : Runs) → does (command_at ring m) (words_at ring m) m.offset x ≡ came (Err why) y
         → step ring m x ≡ record { number = fault_number why; place = m.read; commands = []; marks = faulted m; runs = y }
     step-fault why y e = step-settled (Err why) y e
+
+-- a command is four words at most
+pub size-most : (command : Command) → size_of command ≤ 4
+unfolding size_of
+size-most c.Plain = omega arith
+size-most c.DlStart = omega arith
+size-most c.Swap = omega arith
+size-most c.ColdStart = omega arith
+size-most c.MemSet = omega arith
+size-most c.MemZero = omega arith
+size-most c.MemCpy = omega arith
+size-most c.Append = omega arith
+size-most c.Unknown = omega arith

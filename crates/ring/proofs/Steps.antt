@@ -52,10 +52,10 @@ first_of ring at (suc n) h = refl
 pub first_word : (ring : List ℕ) (at : ℕ) (command : Command) → get_or (words_from ring at (size_of command)) 0 0 ≡ word_from ring at 0
 first_word ring at command = first_of ring at (size_of command) (size-some command)
 
--- WHAT A COMMAND COMES TO: a list offset that is a place, or a fault and no effect
+-- WHAT A COMMAND COMES TO: a list offset that is a place, or a fault, whose number is not 0, and no effect
 abbrev pub Comes : Runs → Outcome → Runs → Type 0
 Comes x (Ok taken) y = (taken.offset ≤ 8192) × (taken.offset % 4 ≡ 0)
-Comes x (Err why) y = y ≡ x
+Comes x (Err why) y = (0 < fault_number why) × (y ≡ x)
 
 fault-some : (why : Fault) → 0 < fault_number why
 unfolding fault_number
@@ -71,13 +71,13 @@ listed-comes new offset x w h = go (leb (offset + length new) 8192) refl
         Comes x (cond t (taken (offset + length new) (with_list (laid offset new x.list) x)) (fault f.ListFull x)).outcome
         (cond t (taken (offset + length new) (with_list (laid offset new x.list) x)) (fault f.ListFull x)).runs
     go true e = (leb-true _ _ e, omega arith)
-    go false e = refl
+    go false e = (fault-some f.ListFull, refl)
 
 stored-comes : (fits : Bool) (at : ℕ) (new : List ℕ) (offset : ℕ) (x : Runs) → offset ≤ 8192 → offset % 4 ≡ 0 →
     Comes x (stored fits at new offset x).outcome (stored fits at new offset x).runs
 unfolding stored
 stored-comes true at new offset x l w = (l, w)
-stored-comes false at new offset x l w = refl
+stored-comes false at new offset x l w = (fault-some f.BadRange, refl)
 
 pub inside : (at count : ℕ) (memory : List ℕ) → is_inside at count memory ≡ true → at + count ≤ length memory
 unfolding is_inside
@@ -94,7 +94,7 @@ appended-comes at count offset x w = go (is_inside at count x.memory && eqb (cou
         let b = both_true (is_inside at count x.memory) (eqb (count % 4) 0) e in
         let n = part-long at count x.memory (inside at count x.memory b.0) in
         listed-comes (part at count x.memory) offset x w (rw n (eqb-true (count % 4) 0 b.1))
-    go false e = refl
+    go false e = (fault-some f.BadRange, refl)
 
 pub does-comes : (command : Command) (words : List ℕ) (offset : ℕ) (x : Runs) → offset ≤ 8192 → offset % 4 ≡ 0 →
     Comes x (does command words offset x).outcome (does command words offset x).runs
@@ -107,7 +107,7 @@ does-comes c.MemSet words offset x l w = stored-comes _ _ _ offset x l w
 does-comes c.MemZero words offset x l w = stored-comes _ _ _ offset x l w
 does-comes c.MemCpy words offset x l w = stored-comes _ _ _ offset x l w
 does-comes c.Append words offset x l w = appended-comes _ _ offset x w
-does-comes c.Unknown words offset x l w = refl
+does-comes c.Unknown words offset x l w = (fault-some f.Unknown, refl)
 
 pub obeyed-comes : (words : List ℕ) (offset : ℕ) (x : Runs) → offset ≤ 8192 → offset % 4 ≡ 0 →
     Comes x (obeyed words offset x).outcome (obeyed words offset x).runs

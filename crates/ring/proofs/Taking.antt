@@ -113,7 +113,7 @@ module _ (ring : List ℕ) where
 
     settled-left : (out : Outcome) (y : Runs) → out ≡ (now ring m x).outcome → y ≡ (now ring m x).runs → Comes x out y → left (settled m (words_at ring m) out y)
     settled-left (Ok taken) y p q k = q
-    settled-left (Err why) y p q k = k
+    settled-left (Err why) y p q k = k.1
 
     step_left : left (step ring m x)
     step_left =

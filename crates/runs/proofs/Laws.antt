@@ -1,11 +1,11 @@
 -- Laws of bytes laid over a run and of a part of one. Assumes nothing.
-use mathlib.Core.List.{List, [], ◌++◌, append_assoc}
-use mathlib.Core.Path.{◌≡◌, ap, ◌∙◌}
-use Prim.Native.Nat.{ℕ, ◌+◌, ◌-◌, ◌<◌, ◌≤◌}
-use native.Mathlib.Nat.{add-sub_cancel_left, add-zero}
+use mathlib.Core.List.{List, [], ◌∷◌, ◌++◌, append_assoc}
+use mathlib.Core.Path.{◌≡◌, sym, ap, ◌∙◌}
+use Prim.Native.Nat.{ℕ, suc, ◌+◌, ◌-◌, ◌<◌, ◌≤◌}
+use native.Mathlib.Nat.{add-sub_cancel_left, add-suc, add-zero, suc-add}
 use native.Mathlib.Omega.{arith}
-use lib.ListN.{length, get_or, take, drop, length-append, length-take, length-drop, take-append-drop, get_or-append}
-use lib.Seq.{drop-drop, get_or-append-add, get_or-drop, get_or-take, length-take-le}
+use lib.ListN.{length, get_or, set, take, drop, length-append, length-take, length-drop, take-append-drop, get_or-append}
+use lib.Seq.{drop-cons, drop-drop, get_or-append-add, get_or-drop, get_or-take, length-take-le, set_at, take-suc}
 use Rattle.runs.specs.Runs.{laid, part}
 
 pub laid-long : (at : ℕ) (new run : List ℕ) → at + length new ≤ length run → length (laid at new run) ≡ length run
@@ -54,3 +54,34 @@ laid-past at new run k l h =
     let e : k ≡ at + length new + (k - (at + length new)) = omega arith in
     let past = rw n at (get_or-append-add (take at run ++ new) rest (k - (at + length new)) 0) ∙ get_or-drop (at + length new) run (k - (at + length new)) 0 in
     rw (append_assoc, ← e) at past
+
+-- one byte more, behind or in front
+pub laid-snoc : (at : ℕ) (new run : List ℕ) (b : ℕ) → at + length new < length run → laid at (new ++ (b ∷ [])) run ≡ set (laid at new run) (at + length new) b
+unfolding laid
+laid-snoc at new run b h =
+    let rest = drop (suc (at + length new)) run in
+    let n : length (take at run ++ new) ≡ at + length new = simp (length-append, length-take) (omega arith) in
+    let e : at + length (new ++ (b ∷ [])) ≡ suc (at + length new) = simp length-append (omega arith) in
+    ap (λ (k : ℕ). take at run ++ ((new ++ (b ∷ [])) ++ drop k run)) e
+    ∙ ap (λ (l : List ℕ). take at run ++ l) (append_assoc new (b ∷ []) rest)
+    ∙ sym (append_assoc (take at run) new (b ∷ rest))
+    ∙ sym (set_at (take at run ++ new) (get_or run (at + length new) 0) rest b (at + length new) n)
+    ∙ ap (λ (l : List ℕ). set l (at + length new) b)
+    (append_assoc (take at run) new (get_or run (at + length new) 0 ∷ rest) ∙ ap (λ (l : List ℕ). take at run ++ (new ++ l)) (sym (drop-cons run (at + length new) 0 h)))
+
+pub laid_cons : (at : ℕ) (new run : List ℕ) (b : ℕ) → at < length run → laid at (b ∷ new) run ≡ set (laid (suc at) new run) at b
+unfolding laid
+laid_cons at new run b h =
+    let rest = new ++ drop (suc at + length new) run in
+    ap (λ (k : ℕ). take at run ++ (b ∷ (new ++ drop k run))) (add-suc at (length new) ∙ sym (suc-add at (length new)))
+    ∙ sym (set_at (take at run) (get_or run at 0) rest b at (length-take-le at run (omega arith)))
+    ∙ ap (λ (l : List ℕ). set l at b)
+    (sym (append_assoc (take at run) (get_or run at 0 ∷ []) rest) ∙ ap (λ (l : List ℕ). l ++ rest) (sym (take-suc run at 0 h)))
+
+pub part-snoc : (at i : ℕ) (run : List ℕ) → at + i < length run → part at (suc i) run ≡ part at i run ++ (get_or run (at + i) 0 ∷ [])
+unfolding part
+part-snoc at i run h = take-suc (drop at run) i 0 (simp length-drop (omega arith)) ∙ rw get_or-drop
+
+pub part-cons : (at i : ℕ) (run : List ℕ) → at < length run → part at (suc i) run ≡ get_or run at 0 ∷ part (suc at) i run
+unfolding part
+part-cons at i run h = ap (take (suc i)) (drop-cons run at 0 h)

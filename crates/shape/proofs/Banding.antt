@@ -5,12 +5,12 @@ use Prim.Native.Nat.{ℕ, ◌<◌, ◌≤◌}
 use native.Mathlib.Omega.{arith}
 use Rattle.truth.proofs.Bools.{both_true}
 use Rattle.units.specs.declared.Pixels.{Pixels}
-use Rattle.units.specs.Units.{count_before, larger, pixel_at, smaller, tallest, widest}
+use Rattle.units.specs.Units.{count_before, larger, pixel_at, smaller, tallest, widest, PixelOf}
 use Rattle.action.specs.declared.shape.Area.{Area}
 use Rattle.shape.specs.declared.Outline.{Outline}
 use Rattle.shape.specs.declared.Rows.{Rows}
 use Rattle.shape.specs.Cover.{area_covers, between, covers, reaches}
-use Rattle.shape.specs.OneRow.{Bounds}
+use Rattle.shape.specs.OneRow.{Bounds, InFrame}
 use Rattle.shape.proofs.Bools.{between-true}
 
 -- a row from a pixel on, and one before it, by the count of rows before that pixel
@@ -32,3 +32,7 @@ band-of outline scissor r bounds x y hx hy e =
     let rows = between-true scissor.top.0 scissor.bottom.0 (pixel_at y).0 sides.1 in
     let own = bounds.bound (pixel_at x) (pixel_at y) (omega arith) (omega arith) both.1 in
     (from_on _ y (omega (arith, own.0, rows.0)), before _ y hy (omega (arith, own.1, rows.1)))
+
+-- a row of a frame
+pub row-in-frame : {width y : ℕ} {q : Pixels} → width ≤ widest → y < tallest → PixelOf y q → InFrame width q
+row-in-frame w l e = (w, (omega (arith, e.kept), omega (arith, e.kept, l)))

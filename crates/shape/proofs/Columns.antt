@@ -3,8 +3,8 @@ use mathlib.Core.Path.{◌≡◌, sym, ◌∙◌}
 use mathlib.Core.Bool.{true, false, ◌&&◌, and-true, and-false}
 use Prim.Native.Nat.{ℕ, ◌+◌, ◌-◌, ◌*◌, ◌^◌, ◌≤◌, ◌<◌}
 use native.Mathlib.Omega.{arith}
-use lib.Dec.{ltb}
-use borrow.Author.Tests.{lt-ltb, le-ltb}
+use lib.Dec.{ltb, eqb}
+use borrow.Author.Tests.{lt-ltb, le-ltb, eqb-true, ltb-true}
 use Rattle.truth.proofs.Bools.{and-implied, both_true, never}
 use Rattle.units.specs.declared.LengthInSixteenths.{LengthInSixteenths}
 use Rattle.units.specs.declared.Pixels.{Pixels}
@@ -131,3 +131,14 @@ area_rows a = record {
       between-true a.top.0 a.bottom.0 q.0
       (both_true (between a.left.0 a.right.0 p.0) (between a.top.0 a.bottom.0 q.0) e).1;
 }
+
+-- a chord that the test of a flat one passes holds every sample
+pub flat-holds : (c : Chord) → (eqb c.near.0 0 && (eqb c.far.0 (2 ^ 64 - 1) && ltb 0 c.room)) ≡ true → (p : Pixels) → Sampled p → holds_in c p ≡ true
+flat-holds c t p h =
+    let a = both_true (eqb c.near.0 0) (eqb c.far.0 (2 ^ 64 - 1) && ltb 0 c.room) t in
+    let b = both_true (eqb c.far.0 (2 ^ 64 - 1)) (ltb 0 c.room) a.1 in
+    flat_holds c (eqb-true c.near.0 0 a.0) (eqb-true c.far.0 (2 ^ 64 - 1) b.0) (ltb-true 0 c.room b.1) p h
+
+-- every row of the widest frame
+pub everything-rows : Bounds o.Everything (record { top = record { 0 = 0 }; bottom = unsampled })
+everything-rows = record { bound = λ p q h k e. (omega arith, k) }

@@ -266,3 +266,19 @@ far-narrows d q c far = record {
 pub segment_rows : (d : Segment) (r : Rows Pixels) → Bounds (o.Rectangle (box_of d)) r → Bounds (o.Segment d) r
 unfolding covers
 segment_rows d r h = record { bound = λ p q k l e. h.bound p q k l (box-covers d p q e) }
+
+-- one column more that is not covered, on either side
+pub none-on : (d : Segment) (q : Pixels) (from x : ℕ) → ((k : ℕ) → from ≤ k → k < x → Misses d q k) → Misses d q x → (k : ℕ) → from ≤ k → k < x + 1 → Misses d q k
+none-on d q from x before here k h l =
+    by_order k x (λ m. before k h m) (λ m. let e : k ≡ x = omega arith in rw e here)
+
+pub none-back : (d : Segment) (q : Pixels) (x end : ℕ) → ((k : ℕ) → x ≤ k → k < end → Misses d q k) → Misses d q (x - 1) → (k : ℕ) → x - 1 ≤ k → k < end → Misses d q k
+none-back d q x end after here k h l =
+    by_order k x (λ m. let e : k ≡ x - 1 = omega arith in rw e here) (λ m. after k m l)
+
+-- a chord that is cut to a frame shows columns of one
+pub cut-shown : (scissor : Area) (width : ℕ) (whole c : Chord) → width ≤ widest → c ≡ cut_to scissor width whole → Shown c
+cut-shown scissor width whole c fits cut =
+    let l = ap (λ (z : Chord). z.left.0) cut in
+    let r = ap (λ (z : Chord). z.right.0) cut in
+    (omega arith, omega arith)

@@ -52,3 +52,6 @@ halves_small rest l =
 
 pub slack_small : (w r : ℕ) → w < 2 ^ 32 → r ≤ 131070 → w * r ≤ (2 ^ 32 - 1) * 131070
 slack_small w r h k = mul-le-mul {n₂ = 2 ^ 32 - 1} {m₂ = 131070} (omega arith) k
+
+pub short-product : (a b : ℕ) → a < 2 ^ 16 → b < 2 ^ 16 → a * b ≤ 65535 * 65535
+short-product a b h k = mul-le-mul {n₂ = 65535} {m₂ = 65535} (omega arith) (omega arith)

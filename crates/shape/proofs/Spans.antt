@@ -1,21 +1,23 @@
 -- What a segment covers lies in the box of its ends, and has no gap in a row. Assumes nothing.
 use mathlib.Core.Path.{◌≡◌, ◌∙◌, ap, subst}
 use mathlib.Core.Bool.{true}
-use Prim.Native.Nat.{ℕ, ◌+◌, ◌-◌, ◌*◌, ◌≤◌, ◌<◌}
-use native.Mathlib.Nat.{mul-le-mul, mul-le-mul_left, mul-pos, le_of_mul-le-mul_left}
+use Prim.Native.Nat.{ℕ, ◌+◌, ◌-◌, ◌*◌, ◌≤◌, ◌<◌, ◌/◌}
+use native.Mathlib.Nat.{mul-le-mul, mul-le-mul_left, mul-pos, le_of_mul-le-mul_left, le-div_iff_mul-le, div-lt_iff_lt-mul}
 use native.Mathlib.Omega.{arith}
 use borrow.Author.Tests.{leb-true, le-leb}
 use Rattle.units.specs.declared.Sixteenths.{Sixteenths}
-use Rattle.units.specs.Units.{larger, smaller}
+use Rattle.units.specs.Units.{larger, smaller, end_near, first_near, short_from}
 use Rattle.action.specs.declared.shape.End.{End}
 use Rattle.action.specs.declared.shape.Segment.{Segment}
 use Rattle.action.specs.Corners.{corners_in_order}
 use Rattle.shape.specs.Cover.{within, outside, to_mean, near_mean}
-use Rattle.shape.specs.Lines.{Comes, Falls, box_of}
+use Rattle.shape.specs.Lines.{Comes, Falls, box_of, Crosses}
 use Rattle.shape.proofs.Order.{by_order}
 use Rattle.shape.proofs.Squares.{root-le, square_le}
 use Rattle.shape.proofs.Weights.{two-squares}
 use Rattle.shape.proofs.Means.{apart-cases, NearSome}
+use Rattle.units.specs.declared.Pixels.{Pixels}
+use Rattle.shape.specs.OneRow.{flat_over}
 
 -- THE BOX. Along one axis, no mean of two positions lies outside of them.
 mean-inside : (k n s a b l h : ℕ) → (l ≤ a) × (a ≤ h) → (l ≤ b) × (b ≤ h) → (k + n) * ((l - s) + (s - h)) ≤ ((k + n) * s - (k * a + n * b)) + ((k * a + n * b) - (k + n) * s)
@@ -155,3 +157,18 @@ slope k n x y ax ay bx by w r both some a b c d l =
         (λ a b c d.
         let t = slope-left k n x y bx ay f e ((k + n) * w) a b c d in
         (cut _ _ (f + e) i t.0, cut _ _ (f + e) i t.1))
+
+-- The samples that come near lie between two quotients.
+pub crosses : (more under slack rise : ℕ) (left right : Pixels) → 0 < rise → left.0 ≡ (first_near (record { 0 = (more - (under + slack)) / rise + short_from }) (record { 0 = 0 })).0 → right.0 ≡ (end_near (record { 0 = (more + slack - under) / rise + short_from }) (record { 0 = 0 })).0 → Crosses more under slack rise (flat_over left right)
+crosses more under slack rise left right some l r = record {
+  all = λ p on h.
+      let low = least (more - (under + slack)) (16 * p.0 - short_from) (omega (arith, h.1)) in
+      let high = most (more + slack - under) (16 * p.0 - short_from) (omega (arith, h.0)) in
+      (omega arith, omega arith);
+}
+  where
+    least : (n x : ℕ) → n ≤ rise * x → n / rise ≤ x
+    least n x h = let t = (div-lt_iff_lt-mul {x = n} {y = x + 1} some).1 (omega arith) in omega arith
+
+    most : (n x : ℕ) → rise * x ≤ n → x ≤ n / rise
+    most n x h = (le-div_iff_mul-le {y = n} some).1 (omega arith)

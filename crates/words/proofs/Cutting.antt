@@ -10,8 +10,8 @@ use borrow.Author.Tests.{leb-true}
 use Rattle.words.specs.declared.field.Field.{Field}
 use Rattle.words.specs.declared.field.Field.TheVariants.{Signed}
 use Rattle.words.specs.declared.fault.WordFault.TheVariants.{NoCommand}
-use Rattle.words.specs.Fields.{above, values, all_mean}
-use Rattle.words.specs.Layout.{filled, layout_of, all_signs, Cuttable, Digit}
+use Rattle.words.specs.Fields.{above, values, all_mean, total}
+use Rattle.words.specs.Layout.{filled, layout_of, all_signs, Cuttable, Digit, signs, Inside}
 use Rattle.words.specs.Table.{row, Found, none, some, row_of}
 use Rattle.words.specs.Words.{command, checked, decoded, spell_as, spell_word}
 use Rattle.words.proofs.Digits.{halves, above-div}
@@ -19,6 +19,7 @@ use Rattle.words.proofs.Packing.{padded, total-padded, by-place}
 use Rattle.words.proofs.Rows.{spelling-by}
 use Rattle.words.proofs.Table.{Sound, sound}
 use Rattle.std.specs.Prelude.{Option, MatchOption, Err}
+use Rattle.truth.proofs.Bools.{both_true}
 
 -- ONE FIELD.
 
@@ -82,3 +83,10 @@ telling w {n} e h = subst (λ (k : Option (List Field)). MatchOption k (spell_wo
               ∙ ap (λ (m : ℕ). decoded m fs w) (sym p.own)
               ∙ sym (spells (some (row code fs make)) q);
         }
+
+-- ONE FIELD of several.
+pub first : {f : Field} {fs : List Field} → Cuttable (f ∷ fs) → Inside f (total fs)
+first {f} h = record { enough = h.narrow; signed = (both_true (signs f) _ h.signed).0 }
+
+pub rest : {f : Field} {fs : List Field} → Cuttable (f ∷ fs) → Cuttable fs
+rest {f} h = record { narrow = omega (arith, h.narrow); signed = (both_true (signs f) _ h.signed).1 }
