@@ -1,14 +1,8 @@
--- What std writes of a number, by `{:02x}` and by `{}`, is the text that specs/Text.antt says.
-use Rattle.std.proofs.Common.{◌≡◌, sym, false, ℕ, zero, suc, ◌+◌, ◌-◌, ◌/◌, ◌%◌, ◌^◌, ◌<◌, ◌≤◌, List, [], ◌∷◌, ◌++◌, arith, rules}
-use Rattle.std.specs.Fmt.{decimal, digits, format_spec, padded_integral}
-use Rattle.std.proofs.lemmas.Fmt.{AppendsLastDigit, decimal_from_appends, hex_byte, length-decimal-le}
-use Rattle.rowshow.specs.Text.{decimal_text, decimal_within, hex_text}
-
-pub hex_printed :
-    (byte : ℕ) → byte < 256 →
-    padded_integral (format_spec 32 0 4 2 (2 ^ 64 - 1)) false [] (digits 16 false byte) ≡ hex_text byte
-unfolding hex_text
-hex_printed byte small = hex_byte false byte small
+-- A number's text by its last digit, and how long the texts are.
+use Rattle.std.proofs.Common.{◌≡◌, refl, sym, ℕ, zero, suc, ◌+◌, ◌*◌, ◌/◌, ◌%◌, ◌^◌, ◌<◌, ◌≤◌, List, [], ◌∷◌, ◌++◌, length, length-append, arith, rules}
+use Rattle.std.specs.Fmt.{decimal}
+use Rattle.std.proofs.lemmas.Fmt.{AppendsLastDigit, decimal_digit, decimal_from_appends, decimal_step, length-decimal-le}
+use Rattle.rowshow.specs.Text.{decimal_text, decimal_within, hex_text, pixel_text_at, pixels_after}
 
 -- decimal_within, by how many digits hold the number
 abbrev within : ℕ → ℕ → List ℕ
@@ -27,8 +21,38 @@ appends = record { one = one; more = more }
     more zero n large = search rules
     more (suc k) n large = search rules
 
+-- the text of a number is what std writes of it
 pub decimal_printed : (n : ℕ) → n < 2 ^ 32 → decimal n ≡ decimal_text n
 unfolding decimal_text
 decimal_printed n small =
     let short = length-decimal-le 10 n (omega arith) (omega arith) (omega arith) in
     sym (decimal_from_appends within appends 10 n (omega arith) short)
+
+pub one_digit : (n : ℕ) → n < 10 → decimal_text n ≡ (48 + n) ∷ []
+one_digit n small = rw (← decimal_printed n (omega arith)) (decimal_digit n small)
+
+pub last_digit : (n : ℕ) → 10 ≤ n → n < 2 ^ 32 → decimal_text n ≡ decimal_text (n / 10) ++ ((48 + n % 10) ∷ [])
+last_digit n large small =
+    rw (← decimal_printed n small, ← decimal_printed (n / 10) (omega arith)) (decimal_step n large (omega arith))
+
+pub decimal-short : (n : ℕ) → n < 2 ^ 32 → length (decimal_text n) ≤ 10
+decimal-short n small =
+    rw (← decimal_printed n small) (length-decimal-le 10 n (omega arith) (omega arith) (omega arith))
+
+pub pixel-long : (picture tags : List ℕ) (k : ℕ) → length (pixel_text_at picture tags k) ≡ 9
+unfolding hex_text
+pixel-long picture tags k = refl
+
+pub others-long : (picture tags : List ℕ) (k : ℕ) → length (pixels_after picture tags k) ≡ 10 * k
+others-long picture tags zero = refl
+others-long picture tags (suc k) =
+    omega (
+      arith,
+      length-append (pixels_after picture tags k) (32 ∷ [] ++ pixel_text_at picture tags (suc k)),
+      others-long picture tags k,
+      pixel-long picture tags (suc k),
+    )
+
+pub ruleset decimal_steps = (one_digit, last_digit, decimal-short, length-append)
+
+pub ruleset row_lengths = (pixel-long, others-long, length-append)

@@ -1,10 +1,75 @@
-// What is printed: an answer, and the row if one was drawn.
-ghost use Rattle.std.specs.Prelude.{◌≡◌, ◌<◌, Some};
-ghost use Rattle.rowshow.specs.Text.{pixel_text, pixel_text_at, row_text};
+// The text that is printed: an answer, and the row if one was drawn. What is put stands behind what stood there.
+ghost use Rattle.std.specs.Prelude.{◌≡◌, ◌+◌, ◌<◌, ◌≤◌, ◌++◌, length};
+ghost use Rattle.arrayvec.specs.ArrayVec.{array_vec_len, Extends};
+ghost use Rattle.io.specs.Digits.{hex_digit_ascii};
+ghost use Rattle.rowshow.specs.Text.{hex_text, pixel_text, pixel_text_at, row_text, decimal_text, named_text, newline};
 ghost use Rattle.rowshow.specs.Show.{shown_text};
 
+use arrayvec::ArrayVec;
 use jokulvisp::JvAnswer;
-use std::fmt;
+
+// The longest has 56 bytes: `done`, ten digits, and the row.
+pub type Text = ArrayVec<u8, 64>;
+
+fn digit(value: u8) -> u8
+    requires { value < 16 }
+    ensures { result ≡ hex_digit_ascii value }
+{
+    if value < 10 {
+        b'0' + value
+    } else {
+        b'a' + (value - 10)
+    }
+}
+
+#[tactic(auto, unfolding(crate::specs::Text::hex_text))]
+fn put_hex(text: &mut Text, byte: u8)
+    requires { array_vec_len text.old + 2 ≤ 64 }
+    ensures { Extends text.old (hex_text byte) text.new }
+{
+    text.push(digit(byte / 16));
+    text.push(digit(byte % 16));
+}
+
+fn put_word(text: &mut Text, word: &[u8])
+    requires { array_vec_len text.old + length word.now ≤ 64 }
+    ensures { Extends text.old word.now text.new }
+{
+    for byte in word {
+        text.push(*byte);
+    }
+}
+
+#[tactic(auto, using(crate::proofs::Printing::decimal_steps))]
+fn put_decimal(text: &mut Text, number: u32)
+    requires { array_vec_len text.old + length (decimal_text number) ≤ 64 }
+    ensures { Extends text.old (decimal_text number) text.new }
+{
+    if number >= 10 {
+        put_decimal(text, number / 10);
+    }
+    text.push(b'0' + (number % 10) as u8);
+}
+
+// A word, and a number behind it.
+#[tactic(auto, using(crate::proofs::Printing::decimal_steps))]
+fn put_named(text: &mut Text, word: &[u8], number: u32)
+    requires { array_vec_len text.old + (length word.now + 10) ≤ 64 }
+    ensures appends { Extends text.old (named_text word.now number) text.new }
+    ensures upper_bound { array_vec_len text.new ≤ array_vec_len text.old + (length word.now + 10) }
+{
+    put_word(text, word);
+    put_decimal(text, number);
+}
+
+fn put_line(text: &mut Text, word: &[u8], number: u32)
+    requires { array_vec_len text.old + (length word.now + 11) ≤ 64 }
+    ensures appends { Extends text.old (named_text word.now number ++ newline) text.new }
+    ensures upper_bound { array_vec_len text.new ≤ array_vec_len text.old + (length word.now + 11) }
+{
+    put_named(text, word, number);
+    text.push(b'\n');
+}
 
 #[derive(Clone, Copy)]
 struct Pixel {
@@ -14,18 +79,17 @@ struct Pixel {
     tag: u8,
 }
 
-impl fmt::Display for Pixel {
-    ghost output = { λ p. Some (pixel_text p.red p.green p.blue p.tag) };
-
-    #[tactic(auto, using(crate::proofs::Printing::hex_printed))]
-    fn fmt<W: fmt::Write>(&self, f: &mut fmt::Formatter<W>) -> fmt::Result {
-        let Pixel {
-            red,
-            green,
-            blue,
-            tag,
-        } = *self;
-        write!(f, "{red:02x}{green:02x}{blue:02x}:{tag:02x}")
+impl Pixel {
+    #[tactic(auto, unfolding(crate::specs::Text::hex_text))]
+    fn put(self, text: &mut Text)
+        requires { array_vec_len text.old + 9 ≤ 64 }
+        ensures { Extends text.old (pixel_text self.red self.green self.blue self.tag) text.new }
+    {
+        put_hex(text, self.red);
+        put_hex(text, self.green);
+        put_hex(text, self.blue);
+        text.push(b':');
+        put_hex(text, self.tag);
     }
 }
 
@@ -49,20 +113,19 @@ impl Row {
             tag: self.tags[k],
         }
     }
-}
 
-impl fmt::Display for Row {
-    ghost output = { λ row. Some (row_text row.picture row.tags) };
-
-    fn fmt<W: fmt::Write>(&self, f: &mut fmt::Formatter<W>) -> fmt::Result {
-        writeln!(
-            f,
-            "{} {} {} {}",
-            self.pixel(0),
-            self.pixel(1),
-            self.pixel(2),
-            self.pixel(3),
-        )
+    // The first pixel, and each other behind a space.
+    #[tactic(auto, using(crate::proofs::Printing::row_lengths))]
+    fn put(&self, text: &mut Text)
+        requires { array_vec_len text.old + 40 ≤ 64 }
+        ensures { Extends text.old (row_text self.now.picture self.now.tags) text.new }
+    {
+        self.pixel(0).put(text);
+        for k in 0..3 {
+            text.push(b' ');
+            self.pixel(k + 1).put(text);
+        }
+        text.push(b'\n');
     }
 }
 
@@ -72,11 +135,11 @@ pub struct Shown {
     pub row: Row,
 }
 
-impl fmt::Display for Shown {
-    ghost output = { λ shown. Some (shown_text shown) };
-
-    #[tactic(auto, using(crate::proofs::Printing::decimal_printed))]
-    fn fmt<W: fmt::Write>(&self, f: &mut fmt::Formatter<W>) -> fmt::Result {
+impl Shown {
+    pub fn text(&self) -> Text
+        ensures { result.items ≡ shown_text self.now }
+    {
+        let mut text = Text::new();
         let JvAnswer {
             number,
             place,
@@ -84,10 +147,18 @@ impl fmt::Display for Shown {
             ..
         } = self.answer;
         match number {
-            0 => write!(f, "done {count}\n{}", self.row),
+            0 => {
+                put_line(&mut text, b"done ", count);
+                self.row.put(&mut text);
+            }
             // Document 01: 'Numbers 1 to 4 print `refused N`.'
-            1..=4 => writeln!(f, "refused {number}"),
-            _ => writeln!(f, "fault {number} at {place} after {count}"),
+            1..=4 => put_line(&mut text, b"refused ", number),
+            _ => {
+                put_named(&mut text, b"fault ", number);
+                put_named(&mut text, b" at ", place);
+                put_line(&mut text, b" after ", count);
+            }
         }
+        text
     }
 }
