@@ -85,7 +85,9 @@ fn walk(old: &Screen, new: &Screen, width: u32, y: u32, marks: &mut [u8])
     }
 }
 
-// Marks each row, 1 if it differs and 0 if not.
+// Marks each row, 1 if it differs and 0 if not. Never inlined: what a walk needs of the stack is given back before rows are
+// painted.
+#[inline(never)]
 fn mark(old: &Screen, new: &Screen, width: u32, marks: &mut [u8])
     requires marks_len_bound { (length marks.old ≤ tallest) × (width ≤ widest) }
     ensures { Marks (actions_in old.now) (actions_in new.now) width (length marks.old) marks.new }

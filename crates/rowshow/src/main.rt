@@ -2,9 +2,9 @@
 // prints the answer and the row.
 #![tactic(auto)]
 
+ghost use Rattle.std.specs.Io.{ReadsAtMost};
 ghost use Rattle.rowshow.specs.Show.{Shows};
 
-use arrayvec::ArrayVec;
 use std::io;
 use std::io::{Read, Write};
 use text::{Row, Shown, Text};
@@ -24,14 +24,30 @@ fn show(list: &[u8]) -> Text
     shown.text()
 }
 
+// Reads until the run is full or the input ends. Each read asks for all of what is left, and one that is interrupted is a
+// read that fails; std's `copy` would ask for less, and read again.
+fn read_full(input: &mut impl Read, run: &mut [u8]) -> io::Result<usize>
+    ensures { ReadsAtMost result run.new }
+{
+    let mut length = 0;
+    while length < run.len() {
+        let count = input.read(&mut run[length..])?;
+        if count == 0 {
+            break;
+        }
+        length += count;
+    }
+    Ok(length)
+}
+
 // One byte more than the longest list has, so that a list too long is refused as jv_paint_row refuses it.
 const MOST_BYTES: usize = 8193;
 
 // `show` is proved. Of `main` no contract speaks: what it reads and writes is run and compared, on this crate's stdin
 // and stdout and by tests/rowshow. A read or a write that fails ends the program with its error.
 fn main(rt: HostRuntime) -> io::Result<()> {
-    let mut list = ArrayVec::<u8, MOST_BYTES>::new();
-    io::copy(&mut rt.stdin().take(MOST_BYTES as u64), &mut list)?;
-    let text = show(&list);
+    let mut list = [0u8; MOST_BYTES];
+    let length = read_full(&mut rt.stdin(), &mut list)?;
+    let text = show(&list[..length]);
     rt.stdout().write_all(&text)
 }
