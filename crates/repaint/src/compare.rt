@@ -1,5 +1,6 @@
 // Two lists side by side, each at an action or at its end: which of them goes on, and what that tells of the rows.
 ghost use Rattle.std.specs.Prelude.{◌≡◌, ◌<◌, ◌≤◌, length, get_or};
+ghost use Rattle.action.specs.Same.{Tells};
 ghost use Rattle.units.specs.Units.{tallest, widest};
 ghost use Rattle.repaint.specs.Rows.{Bounded, Compares, Stood, Touches, Turns, beside, meets_row, pace_of, standing};
 
@@ -24,6 +25,17 @@ pub struct Pace {
 pub struct Ahead {
     pub old: u64,
     pub new: u64,
+}
+
+// Whether the two lists came to the same: to equal actions, or both to their end.
+fn is_same(old: Option<Action>, new: Option<Action>) -> bool
+    ensures { Tells result (old ≡ new) }
+{
+    match (old, new) {
+        (Some(a), Some(b)) => a.is(b),
+        (None, None) => true,
+        _ => false,
+    }
 }
 
 // Nothing comes any more of a list that has ended: that tells of every row, as an action does of the rows that it reaches.
@@ -141,7 +153,7 @@ pub fn compare(
     requires { ((y < length marks.old) × (get_or marks.old y 0 ≡ beside)) × ((length marks.old ≤ tallest) × (width ≤ widest)) }
     ensures { Compares width y old new result marks.old marks.new }
 {
-    if old == new {
+    if is_same(old, new) {
         if old.is_some() {
             return Pace {
                 old: true,
