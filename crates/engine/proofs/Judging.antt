@@ -1,10 +1,11 @@
 -- Which bitmaps are drawn: `drawable` as facts about a handle's numbers, and `judged` by them. Assumes nothing.
 use mathlib.Core.Path.{◌≡◌}
 use mathlib.Core.Bool.{true}
-use Prim.Native.Nat.{ℕ, ◌+◌, ◌*◌, ◌<◌, ◌≤◌}
+use Prim.Native.Nat.{ℕ, ◌+◌, ◌*◌, ◌%◌, ◌<◌, ◌≤◌}
 use native.Mathlib.Nat.{mul_comm, le-mul_of_pos_right}
 use native.Mathlib.Omega.{arith}
-use borrow.Author.Tests.{ltb-true, leb-true, lt-ltb, le-leb}
+use lib.Dec.{eqb}
+use borrow.Author.Tests.{ltb-true, leb-true, lt-ltb, le-leb, ne_eqb}
 use Rattle.std.specs.Prelude.{Some, None}
 use Rattle.truth.proofs.Bools.{both_true, not_so}
 use Rattle.engine.specs.Handles.{cell_start, aligned, drawable, bitmap_of, judged}
@@ -30,6 +31,10 @@ line-fits {h} d = omega (arith, le-mul_of_pos_right h.stride d.rows)
 
 pub lines_fit : {h : Handle} {cell memory : ℕ} → Drawn h cell memory → h.rows ≤ memory
 lines_fit {h} d = omega (arith, mul_comm h.stride h.rows, le-mul_of_pos_right h.rows d.stride)
+
+-- in a format of two bytes a cell's lines start at even addresses
+two_bytes : (h : Handle) → (h.format ≡ 3 → ⊥) → aligned h ≡ true → (eqb (h.source % 2) 0 ≡ true) × (eqb (h.stride % 2) 0 ≡ true)
+two_bytes h n a = both_true _ _ (rw (ne_eqb h.format 3 n) at a)
 
 told : (h : Handle) (cell memory : ℕ) → drawable h cell memory ≡ true → Drawn h cell memory
 unfolding drawable

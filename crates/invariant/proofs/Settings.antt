@@ -16,6 +16,7 @@ use Rattle.engine.specs.Drawn.{drawn_format}
 use Rattle.engine.specs.Handles.{unset, all_unset, settings_at, put, handle_of, handle_at, sourced, laid_out, sized, laid_out_high, sized_high}
 use Rattle.invariant.specs.State.{ValidHandles}
 use Rattle.invariant.proofs.Lists.{set_at}
+use lib.ListN.{get_or}
 
 abbrev Drawn : Settings → Type 0
 Drawn s = (layout : Layout) → s.layout ≡ Some layout → drawn_format layout.format ≡ true
@@ -61,6 +62,10 @@ module _ {hs : Handles} (h : ℕ) (v : ValidHandles hs) where
   pub sized-high-valid : (high : Size) → ValidHandles (sized_high hs h high)
   unfolding sized_high
   sized-high-valid high = put-valid _ (v.format h)
+
+  -- any other setting, the layout left as it is
+  put_other : (s : Settings) → s.layout ≡ (get_or hs.0 (h % 32) unset).layout → ValidHandles (put hs h s)
+  put_other s e = put-valid s (λ layout f. v.format h layout (sym e ∙ f))
 
 -- 'Every run starts with all handles unset.'
 pub unset-valid : ValidHandles all_unset
