@@ -72,8 +72,3 @@ pub unset-valid : ValidHandles all_unset
 unset-valid =
     handles-valid all_unset (length-replicate {A = Settings} 32 unset)
     (λ i layout e. absurd (none-some layout (sym (ap (λ (s : Settings). s.layout) (get_or-replicate 32 (i % 32) unset unset (omega arith))) ∙ e)))
-
--- a handle's other settings put, its layout left as it is
-module _ {hs : Handles} (h : ℕ) (v : ValidHandles hs) where
-  put_other : (s : Settings) → s.layout ≡ (settings_at hs h).layout → ValidHandles (put hs h s)
-  put_other s e = put-valid h v s (λ layout f. v.format h layout (sym e ∙ f))
