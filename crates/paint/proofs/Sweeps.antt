@@ -67,6 +67,12 @@ flooded from to byte run part low high e =
       outside = λ k h. rw e (⊎_elim (λ (b : k < from). search (rules, places)) (λ (b : to ≤ k). search (rules, places)) h);
     }
 
+-- the first bytes of a run filled
+pub flooded-first :
+    (to byte : ℕ) (run part : List ℕ) → to ≤ length run → part ≡ replicate (length (take to run)) byte → (k : ℕ) → k < to →
+    get_or (part ++ drop to run) k 0 ≡ byte
+flooded-first to byte run part high e k l = rw e (search (rules, places))
+
 -- a row whose tags and alpha were filled and whose colours were then swept
 pub swept-filled :
     (from to : ℕ) (with : Fill) (colours stencil : List ℕ) {tags alpha tags' alpha' : List ℕ} {now : ℕ → Pixel} →

@@ -1,6 +1,7 @@
 -- One row as four runs of bytes, its picture and its tags and the two work rows, and how a function changes them. No
 -- sentence of document 01 stands behind these contracts: they lead from the bytes to the pixels that Picture speaks of.
 use Rattle.std.specs.Prelude.{Bool, cond, List, Option, Some, None, ◌⊎◌, ◌≡◌, ℕ, ◌+◌, ◌-◌, ◌*◌, ◌<◌, ◌≤◌, length, get_or}
+use Rattle.std.specs.Option.{ForSome}
 use Rattle.action.specs.declared.Action.{Action}
 use Rattle.action.specs.declared.Drawing.{Drawing}
 use Rattle.action.specs.declared.shape.Bitmap.{Bitmap}
@@ -15,7 +16,7 @@ use Rattle.pixel.specs.declared.plain.Plain.{Plain}
 use Rattle.texel.specs.Texel.{texel_at}
 use Rattle.units.specs.Units.{pixel_at, widest}
 use Rattle.units.specs.declared.Pixels.{Pixels}
-use Rattle.paint.specs.Picture.{blank, changed, drawn_at, drawn_by, row_in, stacked}
+use Rattle.paint.specs.Picture.{blank, changed, drawn_at, drawn_by, row_colours, row_in, row_tags, stacked}
 use Rattle.paint.specs.declared.row.Row.{Row}
 use Rattle.paint.specs.declared.kept.Kept.{Kept}
 use Rattle.paint.specs.Actions.{Gathers}
@@ -39,6 +40,9 @@ pixels row = pixel_in row.colours row.tags row.alpha row.stencil
 abbrev pub Blank : Row → Type 0
 Blank row = (x : ℕ) → pixels row x ≡ blank
 
+abbrev pub BlankUpTo : ℕ → Row → Type 0
+BlankUpTo width row = (x : ℕ) → x < width → pixels row x ≡ blank
+
 -- the runs of so many rows of this width, which is one that a frame may have
 abbrev pub HoldRows : ℕ → ℕ → List ℕ → List ℕ → Type 0
 HoldRows width count picture tags =
@@ -51,6 +55,13 @@ Tells post count wanted = (y : ℕ) (told : Bool) → y < count → post y told 
 -- so many rows, of which those that are wanted are these and every other keeps its lent bytes
 abbrev pub wanted_rows : (ℕ → Bool) → (ℕ → List ℕ) → ℕ → ℕ → List ℕ → List ℕ
 wanted_rows wanted row wide count lent = stacked (λ y. cond (wanted y) (row y) (row_in lent wide y)) count
+
+-- of so many rows from the first on those that are wanted are painted, and every other keeps its lent bytes
+abbrev pub Paints : (ℕ → Bool → Type 0) → List ℕ → List Action → ℕ → ℕ → ℕ → List ℕ → List ℕ → List ℕ → List ℕ → Type 0
+Paints post memory actions width first count picture tags picture' tags' =
+    (wanted : ℕ → Bool) → Tells post count wanted →
+    (picture' ≡ wanted_rows wanted (λ y. row_colours memory actions width (first + y)) (3 * width) count picture)
+    × (tags' ≡ wanted_rows wanted (λ y. row_tags memory actions width (first + y)) width count tags)
 
 -- pixel x, and no other, is as the step makes it
 pub record Touched (x : ℕ) (step : Pixel → Pixel) (old now : ℕ → Pixel) : Type 0 where
@@ -89,6 +100,6 @@ Drawn memory action width q old now = (x : ℕ) → x < width → now x ≡ draw
 abbrev pub DrawnAll : List ℕ → List Action → ℕ → Pixels → (ℕ → Pixel) → (ℕ → Pixel) → Type 0
 DrawnAll memory actions width q old now = (x : ℕ) → x < width → now x ≡ drawn_by memory actions (pixel_at x) q (old x)
 
--- what a painter holds: a width that a frame may have, and the actions that are kept of the list
-abbrev pub Ready : List Action → ℕ → Kept → Type 0
-Ready actions width kept = (width ≤ widest) × Gathers actions kept
+-- what a painter holds: a width that a frame may have, and the actions of the list, if they are kept
+abbrev pub Ready : List Action → ℕ → Option Kept → Type 0
+Ready actions width kept = (width ≤ widest) × ForSome kept (Gathers actions)

@@ -2,12 +2,13 @@
 // actions that reach it.
 #![tactic(auto)]
 
-ghost use Rattle.std.specs.Prelude.{Bool, ℕ, ◌≡◌, ◌<◌, ◌≤◌, ◌+◌, ◌*◌, length};
+ghost use Rattle.std.specs.Prelude.{Bool, true, false, ℕ, ◌≡◌, ◌<◌, ◌≤◌, ◌+◌, ◌*◌, length};
 ghost use Rattle.engine.specs.Running.{actions_in};
 ghost use Rattle.units.specs.Units.{pixel_at, tallest, widest};
 ghost use Rattle.paint.specs.Actions.{KeepsAll};
 ghost use Rattle.paint.specs.Picture.{colours_from, tags_from, patched, row_colours, row_tags};
-ghost use Rattle.paint.specs.Runs.{DrawnAll, HoldRows, Ready, Tells, pixels, wanted_rows};
+ghost use Rattle.paint.specs.Runs.{DrawnAll, HoldRows, Paints, Ready, pixels};
+ghost use Rattle.std.specs.Option.{option_copied};
 
 mod kept;
 mod row;
@@ -17,19 +18,19 @@ use kept::Kept;
 use row::Row;
 use units::Pixels;
 
-// A list that is painted on frames of one width, and its actions as far as they are kept.
+// A list that is painted on frames of one width, and its actions where they are kept.
 #[derive(Drop)]
-struct Painter<'a> {
+struct Painter<'a, 'k> {
     screen: &'a Screen<'a>,
     width: u32,
-    kept: &'a Kept,
-    ghost ready: { Ready (actions_in screen.now) width kept.now },
+    kept: Option<&'k Kept>,
+    ghost ready: { Ready (actions_in screen.now) width (option_copied kept) },
 }
 
-impl<'a> Painter<'a> {
+impl<'a, 'k> Painter<'a, 'k> {
     // Draws the kept actions, which are all, into row y, each that can reach it.
-    fn draw_kept(&self, count: usize, y: u32, row: &mut Row)
-        requires all { KeepsAll (actions_in self.now.screen.now) self.now.kept.now count }
+    fn draw_kept(&self, kept: &Kept, count: usize, y: u32, row: &mut Row)
+        requires all { KeepsAll (actions_in self.now.screen.now) kept.now count }
         requires y_lt_tallest { y < tallest }
         ensures { DrawnAll
             self.now.screen.now.memory.now
@@ -39,9 +40,8 @@ impl<'a> Painter<'a> {
             (pixels row.old)
             (pixels row.new) }
     {
-        let kept = self.kept;
         for k in 0..count {
-            let band = kept.bands[k];
+            let band = &kept.bands[k];
             if (band.top <= y) & (y < band.bottom) {
                 let action = store::get(k, &kept.numbers, &kept.places);
                 row.draw(action, Pixels::of(y), self.screen.memory, self.width);
@@ -49,7 +49,8 @@ impl<'a> Painter<'a> {
         }
     }
 
-    // Runs the list anew and draws each of its actions into row y.
+    // Runs the list anew and draws each of its actions into row y. Never inlined: a run takes room of the stack.
+    #[inline(never)]
     fn draw_list(&self, y: u32, row: &mut Row)
         requires { y < tallest }
         ensures { DrawnAll
@@ -65,8 +66,28 @@ impl<'a> Painter<'a> {
         }
     }
 
-    // Row y, from 0: nothing of what was lent is left.
-    fn paint_row(&self, y: u32, picture: &mut [u8], tags: &mut [u8])
+    // Draws all actions of the list into row y.
+    fn draw(&self, y: u32, row: &mut Row)
+        requires { y < tallest }
+        ensures { DrawnAll
+            self.now.screen.now.memory.now
+            (actions_in self.now.screen.now)
+            self.now.width
+            (pixel_at y)
+            (pixels row.old)
+            (pixels row.new) }
+    {
+        if let Some(kept) = self.kept {
+            if let Some(count) = kept.count {
+                self.draw_kept(kept, count, y, row);
+                return;
+            }
+        }
+        self.draw_list(y, row);
+    }
+
+    // Row y, from 0: nothing of what was lent is left, nor of what was in work before.
+    fn paint_row(&self, y: u32, row: &mut Row, picture: &mut [u8], tags: &mut [u8])
         requires { (y < tallest)
             × ((length picture.old ≡ 3 * self.now.width) × (length tags.old ≡ self.now.width)) }
         ensures picture_after { picture.new ≡ row_colours
@@ -80,13 +101,92 @@ impl<'a> Painter<'a> {
             self.now.width
             y }
     {
-        let mut row = Row::blank();
-        match self.kept.count {
-            Some(count) => self.draw_kept(count, y, &mut row),
-            None => self.draw_list(y, &mut row),
-        }
+        row.restart(self.width as usize);
+        self.draw(y, row);
         row.lay(picture, tags);
     }
+
+    // Paints of so many rows, from `first` on, those that are wanted, each into its part of the runs, and leaves every
+    // other row.
+    fn paint<W: Fn(usize) -> bool>(
+        &self,
+        first: u32,
+        count: usize,
+        is_wanted: &W,
+        picture: &mut [u8],
+        tags: &mut [u8],
+    )
+        requires count_bound { (first + count ≤ tallest) × HoldRows self.now.width count picture.old tags.old }
+        requires callable { (y : ℕ) → y < count → W.pre is_wanted.now y }
+        ensures { Paints
+            (W.post is_wanted.now)
+            self.now.screen.now.memory.now
+            (actions_in self.now.screen.now)
+            self.now.width
+            first
+            count
+            picture.old
+            tags.old
+            picture.new
+            tags.new }
+    {
+        let wide = self.width as usize;
+        let mut row = Row::blank();
+        for y in 0..count {
+            if is_wanted(y) {
+                let a = y * (3 * wide);
+                let b = y * wide;
+                self.paint_row(
+                    first + y as u32,
+                    &mut row,
+                    &mut picture[a..a + 3 * wide],
+                    &mut tags[b..b + wide],
+                );
+            }
+        }
+    }
+}
+
+// Paints them out of the kept actions, where there is room for all; else nothing is painted. Never inlined: the room that
+// the actions take of the stack is given back.
+#[inline(never)]
+fn paint_kept<W: Fn(usize) -> bool>(
+    screen: &Screen,
+    width: u32,
+    first: u32,
+    count: usize,
+    is_wanted: &W,
+    picture: &mut [u8],
+    tags: &mut [u8],
+) -> bool
+    requires count_bound { (first + count ≤ tallest) × HoldRows width count picture.old tags.old }
+    requires callable { (y : ℕ) → y < count → W.pre is_wanted.now y }
+    ensures painted { result ≡ true → Paints
+        (W.post is_wanted.now)
+        screen.now.memory.now
+        (actions_in screen.now)
+        width
+        first
+        count
+        picture.old
+        tags.old
+        picture.new
+        tags.new }
+    ensures left { result ≡ false → (picture.new ≡ picture.old) × (tags.new ≡ tags.old) }
+{
+    let mut kept = Kept::none();
+    kept.gather(screen);
+    if kept.count.is_none() {
+        return false;
+    }
+    let actions = Some(&kept);
+    let painter = Painter {
+        screen: &*screen,
+        width,
+        kept: actions,
+    };
+    painter.paint(first, count, &*is_wanted, picture, tags);
+    true
 }
 
 // Paints of so many rows, from `first` on, those that are wanted, each into its part of the runs, and leaves every other
@@ -102,36 +202,25 @@ fn paint_wanted<W: Fn(usize) -> bool>(
 )
     requires count_bound { (first + count ≤ tallest) × HoldRows width count picture.old tags.old }
     requires callable { (y : ℕ) → y < count → W.pre is_wanted y }
-    ensures { (wanted : ℕ → Bool) → Tells (W.post is_wanted) count wanted →
-        (picture.new ≡ wanted_rows wanted
-        (λ y. row_colours screen.now.memory.now (actions_in screen.now) width (first + y))
-        (3 * width)
-        count
-        picture.old)
-        × (tags.new ≡ wanted_rows wanted
-        (λ y. row_tags screen.now.memory.now (actions_in screen.now) width (first + y))
+    ensures { Paints
+        (W.post is_wanted)
+        screen.now.memory.now
+        (actions_in screen.now)
         width
+        first
         count
-        tags.old) }
+        picture.old
+        tags.old
+        picture.new
+        tags.new }
 {
-    let mut kept = Kept::none();
-    kept.gather(screen);
-    let painter = Painter {
-        screen,
-        width,
-        kept: &kept,
-    };
-    let wide = width as usize;
-    for y in 0..count {
-        if is_wanted(y) {
-            let a = y * (3 * wide);
-            let b = y * wide;
-            painter.paint_row(
-                first + y as u32,
-                &mut picture[a..a + 3 * wide],
-                &mut tags[b..b + wide],
-            );
-        }
+    if !paint_kept(screen, width, first, count, &is_wanted, picture, tags) {
+        let painter = Painter {
+            screen: &*screen,
+            width,
+            kept: None,
+        };
+        painter.paint(first, count, &is_wanted, picture, tags);
     }
 }
 

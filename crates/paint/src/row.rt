@@ -6,7 +6,7 @@ ghost use Rattle.shape.specs.Cover.{between, outline_of, reaches};
 ghost use Rattle.shape.specs.OneRow.{InFrame, has_column};
 ghost use Rattle.units.specs.Units.{pixel_at, widest};
 ghost use Rattle.paint.specs.Picture.{colours_of, tags_of};
-ghost use Rattle.paint.specs.Runs.{Blank, Does, Drawn, PlainDrawing, Swept, Touched, inked, pixels, texel_in};
+ghost use Rattle.paint.specs.Runs.{Blank, BlankUpTo, Does, Drawn, PlainDrawing, Swept, Touched, inked, pixels, texel_in};
 
 use action::{Action, Bitmap, Colour, Drawing, Ink, Masks};
 use pixel::{Fill, Pixel, Plain};
@@ -93,6 +93,18 @@ impl Row {
             alpha: [0; COLUMNS],
             stencil: [0; COLUMNS],
         }
+    }
+
+    // Begins another row: its first pixels, as many as a frame of this width has, are zeros. What lies behind them stays,
+    // so that a narrow frame's row costs what it has.
+    pub fn restart(&mut self, width: usize)
+        requires { width ≤ widest }
+        ensures { BlankUpTo width self.new }
+    {
+        self.colours[..3 * width].fill(0);
+        self.tags[..width].fill(0);
+        self.alpha[..width].fill(0);
+        self.stencil[..width].fill(0);
     }
 
     #[tactic(auto, unfolding(crate::specs::Runs::pixel_in))]

@@ -5,4 +5,4 @@ use Rattle.paint.proofs.Painter.draw_kept.Given as goal
 
 abbrev pub invariant-loop-k : goal.invariant-loop-k
 invariant-loop-k l =
-    DrawnAll l.self.screen.now.memory.now (kept_up_to l.self.kept.now.numbers l.self.kept.now.places l.k) l.self.width (pixel_at l.y) (pixels l.fn.row) (pixels l.row)
+    DrawnAll l.self.screen.now.memory.now (kept_up_to l.kept.numbers l.kept.places l.k) l.self.width (pixel_at l.y) (pixels l.fn.row) (pixels l.row)

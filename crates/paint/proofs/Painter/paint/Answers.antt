@@ -1,8 +1,8 @@
 use Rattle.paint.proofs.Patching.{wanted-left, wanted-none, wanted-painted}
 use Rattle.paint.proofs.Rows.{colours-long, tags-long}
 use Rattle.paint.proofs.Stacks.{filled-all}
-use Rattle.paint.proofs.paint_wanted.Goals as goal
-use Rattle.paint.proofs.paint_wanted.Goals.{then-is_wanted, else-is_wanted}
+use Rattle.paint.proofs.Painter.paint.Goals as goal
+use Rattle.paint.proofs.Painter.paint.Goals.{then-is_wanted, else-is_wanted}
 
 pub loop-y-init : goal.loop-y-init
 loop-y-init g c =
