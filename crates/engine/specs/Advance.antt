@@ -2,11 +2,13 @@
 -- followed by the run of the engine that it hands back, is the run that Run defines.
 use Rattle.std.specs.Prelude.{◌≡◌, Bool, true, false, ◌&&◌, List, ℕ, ◌+◌, ◌-◌, ◌<◌, ◌≤◌, ltb, leb}
 use Rattle.engine.specs.declared.handles.Handles.{Handles}
+use Rattle.engine.specs.declared.kept.Engine.{Engine}
 use Rattle.engine.specs.declared.kept.Kept.{Kept}
 use Rattle.engine.specs.declared.machine.Machine.{Machine}
 use Rattle.engine.specs.declared.run.Advanced.{Advanced}
 use Rattle.engine.specs.declared.run.Find.{Find}
 use Rattle.engine.specs.declared.run.Find.TheVariants as f
+use Rattle.engine.specs.declared.run.Reached.{Reached}
 use Rattle.engine.specs.Run.{State, Ran, acted, stopped, run}
 
 -- what was found first and then the rest of the run, when so many words were fetched up to it
@@ -23,6 +25,10 @@ is_kept count = ltb 0 count && leb count 4
 
 abbrev pub found : Machine → Kept → ℕ → Find → Advanced
 found now kept left find = record { engine = record { now = now; kept = kept }; left = left; find = find }
+
+-- the same where the engine was lent: it stands where the run does
+abbrev pub standing : Engine → Reached → Advanced
+standing engine r = record { engine = engine; left = r.left; find = r.find }
 
 -- a run of which the actions are asked for, or only how it ends
 unfoldable pub heard : Bool → Ran → Ran

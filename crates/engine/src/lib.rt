@@ -1,8 +1,9 @@
 // A display list run: the state of the engine, what each command does to it, and the actions that come of it.
 //
 // A `Screen` is a list that can be run: `finish` runs it to its end or fault, and of a `Run` of it `next` asks for one
-// drawing action after the other. Both stand on `advance`, which goes on from an engine to the next action, the end or the
-// fault. The function `finish` runs a list where RAM_G's length alone is known. Their callers never see a word.
+// drawing action after the other. Both stand on `Engine::advance`, which goes on from an engine to the next action, the end
+// or the fault. The function `advance` does so by value, and the function `finish` runs a list where RAM_G's length alone
+// is known. Their callers never see a word.
 #![tactic(auto)]
 
 mod command;

@@ -1,6 +1,6 @@
 // A run from one drawing action to the next.
 ghost use Rattle.std.specs.Prelude.{◌≡◌};
-ghost use Rattle.engine.specs.Advance.{is_kept, found, Advances};
+ghost use Rattle.engine.specs.Advance.{is_kept, found, standing, Advances};
 ghost use Rattle.engine.specs.Run.{WithinLimits, clear_of, drawing_of, action_of};
 
 use crate::context::Context;
@@ -29,6 +29,13 @@ pub enum Find {
 #[derive(Clone, Copy)]
 pub struct Advanced {
     pub engine: Engine,
+    pub left: u32,
+    pub find: Find,
+}
+
+// The same of an engine that was lent, and so stands where the run does.
+#[derive(Clone, Copy)]
+pub(crate) struct Reached {
     pub left: u32,
     pub find: Find,
 }
@@ -78,33 +85,6 @@ fn act(context: Context, shape: Shape) -> Action
     }
 }
 
-// A run that is over: at the list's end, or at a fault.
-fn over(now: Machine, kept: Kept, left: u32, stop: Option<Stop>) -> Advanced
-    ensures { result ≡ found now kept left (Find.Over stop) }
-{
-    Advanced {
-        engine: Engine { now, kept },
-        left,
-        find: Find::Over(stop),
-    }
-}
-
-fn drew(now: Machine, kept: Kept, left: u32, shape: Shape) -> Advanced
-    ensures { result ≡ found now kept left (Find.Drew (action_of now.context shape)) }
-{
-    let context = now.context;
-    let engine = Engine {
-        now: now,
-        kept: kept,
-    };
-    let find = Find::Drew(act(context, shape));
-    Advanced {
-        engine: engine,
-        left: left,
-        find: find,
-    }
-}
-
 // Whether a context is kept that a restore can load.
 #[tactic(auto, unfolding(crate::specs::Advance::is_kept))]
 fn is_kept(count: usize) -> bool
@@ -113,9 +93,136 @@ fn is_kept(count: usize) -> bool
     (0 < count) & (count <= 4)
 }
 
-// Goes on from an engine, with so many words allowed: to the next action if `halt` is set, else to the list's end or the
-// fault. The machine and the kept contexts are held apart, since few words touch the latter; the four that an engine's methods obey put them
-// together for that.
+impl Engine {
+    // A run that is over: at the list's end, or at a fault.
+    fn over(&mut self, now: Machine, kept: Kept, left: u32, stop: Option<Stop>) -> Reached
+        ensures { standing self.new result ≡ found now kept left (Find.Over stop) }
+    {
+        *self = Engine { now, kept };
+        Reached {
+            left,
+            find: Find::Over(stop),
+        }
+    }
+
+    fn drew(&mut self, now: Machine, kept: Kept, left: u32, shape: Shape) -> Reached
+        ensures { standing self.new result ≡ found now kept left (Find.Drew (action_of now.context shape)) }
+    {
+        let find = Find::Drew(act(now.context, shape));
+        *self = Engine { now, kept };
+        Reached { left, find }
+    }
+
+    // Goes on with so many words allowed: to the next action if `halt` is set, else to the list's end or the fault. The
+    // machine and the kept contexts are held apart, since few words touch the latter; the four that an engine's methods
+    // obey put them together for that. The engine is lent: handed over and back by a `Run`, it would be copied twice more
+    // for each action.
+    pub(crate) fn advance(
+        &mut self,
+        handles: &mut Handles,
+        list: &[u8],
+        memory: u32,
+        allowed: u32,
+        halt: bool,
+    ) -> Reached
+        requires { WithinLimits list.now memory }
+        ensures { Advances list.now memory allowed halt (record { engine = self.old; handles = handles.old }) (standing self.new result) handles.new }
+    {
+        let mut now = self.now;
+        let mut kept = self.kept;
+        let mut left = allowed;
+        while 0 < left {
+            let at = now.at;
+            if list.len() <= wide(at) {
+                return self.over(
+                    now,
+                    kept,
+                    left,
+                    Some(Stop {
+                        number: Fault::PastTheEnd.number(),
+                        place: at,
+                    }),
+                );
+            }
+            left = left - 1;
+            let bits = runs::word_at(list, at);
+            now.at = at + 4;
+            let stepped = now.step(handles, memory, bits);
+            let next = stepped.machine;
+            let event = stepped.event;
+            now = next;
+            match event {
+                Event::Quiet => {}
+                Event::Save => {
+                    let engine = Engine {
+                        now: now,
+                        kept: kept,
+                    };
+                    let next = engine.push();
+                    now = next.now;
+                    kept = next.kept;
+                }
+                Event::Restore => {
+                    let count = kept.count;
+                    let newest = if is_kept(count) {
+                        let last = count - 1;
+                        kept.contexts[last]
+                    } else {
+                        Context::start()
+                    };
+                    let engine = Engine {
+                        now: now,
+                        kept: kept,
+                    };
+                    let next = engine.pop(newest);
+                    now = next.now;
+                    kept = next.kept;
+                }
+                Event::Call(to) => {
+                    let engine = Engine {
+                        now: now,
+                        kept: kept,
+                    };
+                    let next = engine.call(to);
+                    now = next.now;
+                    kept = next.kept;
+                }
+                Event::Return => {
+                    let engine = Engine {
+                        now: now,
+                        kept: kept,
+                    };
+                    let next = engine.back();
+                    now = next.now;
+                    kept = next.kept;
+                }
+                Event::Draw(shape) => {
+                    if halt {
+                        return self.drew(now, kept, left, shape);
+                    }
+                }
+                Event::Ended => {
+                    return self.over(now, kept, left, None);
+                }
+                Event::Fault(number) => {
+                    return self.over(now, kept, left, Some(Stop { number, place: at }));
+                }
+            }
+        }
+        let at = now.at;
+        self.over(
+            now,
+            kept,
+            left,
+            Some(Stop {
+                number: Fault::LimitReached.number(),
+                place: at,
+            }),
+        )
+    }
+}
+
+// Goes on from an engine by value, and hands back the one that the run has come to.
 pub fn advance(
     from: Engine,
     handles: &mut Handles,
@@ -127,95 +234,7 @@ pub fn advance(
     requires { WithinLimits list.now memory }
     ensures { Advances list.now memory allowed halt (record { engine = from; handles = handles.old }) result handles.new }
 {
-    let mut now = from.now;
-    let mut kept = from.kept;
-    let mut left = allowed;
-    while 0 < left {
-        let at = now.at;
-        if list.len() <= wide(at) {
-            return over(
-                now,
-                kept,
-                left,
-                Some(Stop {
-                    number: Fault::PastTheEnd.number(),
-                    place: at,
-                }),
-            );
-        }
-        left = left - 1;
-        let bits = runs::word_at(list, at);
-        now.at = at + 4;
-        let stepped = now.step(handles, memory, bits);
-        let next = stepped.machine;
-        let event = stepped.event;
-        now = next;
-        match event {
-            Event::Quiet => {}
-            Event::Save => {
-                let engine = Engine {
-                    now: now,
-                    kept: kept,
-                };
-                let next = engine.push();
-                now = next.now;
-                kept = next.kept;
-            }
-            Event::Restore => {
-                let count = kept.count;
-                let newest = if is_kept(count) {
-                    let last = count - 1;
-                    kept.contexts[last]
-                } else {
-                    Context::start()
-                };
-                let engine = Engine {
-                    now: now,
-                    kept: kept,
-                };
-                let next = engine.pop(newest);
-                now = next.now;
-                kept = next.kept;
-            }
-            Event::Call(to) => {
-                let engine = Engine {
-                    now: now,
-                    kept: kept,
-                };
-                let next = engine.call(to);
-                now = next.now;
-                kept = next.kept;
-            }
-            Event::Return => {
-                let engine = Engine {
-                    now: now,
-                    kept: kept,
-                };
-                let next = engine.back();
-                now = next.now;
-                kept = next.kept;
-            }
-            Event::Draw(shape) => {
-                if halt {
-                    return drew(now, kept, left, shape);
-                }
-            }
-            Event::Ended => {
-                return over(now, kept, left, None);
-            }
-            Event::Fault(number) => {
-                return over(now, kept, left, Some(Stop { number, place: at }));
-            }
-        }
-    }
-    let at = now.at;
-    over(
-        now,
-        kept,
-        left,
-        Some(Stop {
-            number: Fault::LimitReached.number(),
-            place: at,
-        }),
-    )
+    let mut engine = from;
+    let Reached { left, find } = engine.advance(handles, list, memory, allowed, halt);
+    Advanced { engine, left, find }
 }

@@ -3,7 +3,7 @@ use Prim.Native.Nat.{◌-◌, ◌≤◌}
 use lib.ListN.{length}
 use Rattle.engine.specs.Advance.{more, heard}
 use Rattle.engine.specs.Run.{run}
-use Rattle.engine.proofs.run.advance.Given as goal
+use Rattle.engine.proofs.kept.Engine.advance.Given as goal
 
 abbrev pub invariant-loop-left : goal.invariant-loop-left
 invariant-loop-left l =

@@ -15,8 +15,8 @@ use Rattle.engine.proofs.Calling.{call-ready, return-ready}
 use Rattle.engine.proofs.Four.{long}
 use Rattle.engine.proofs.Keeping.{some-kept, four-kept, newest-there, newest-none}
 use Rattle.engine.proofs.Turns.{past, on, on-draw, drew as told, ended, faulted}
-use Rattle.engine.proofs.run.advance.Goals as goal
-use Rattle.engine.proofs.run.advance.Goals.{then-is_kept, else-is_kept}
+use Rattle.engine.proofs.kept.Engine.advance.Goals as goal
+use Rattle.engine.proofs.kept.Engine.advance.Goals.{then-is_kept, else-is_kept}
 
 -- The limit is used up: 19, wherever the next word lies.
 spent :
@@ -30,7 +30,7 @@ spent list memory x allowed left z rest =
 pub loop-left-init : goal.loop-left-init
 loop-left-init c =
     let a = c.args in
-    let r : Ran = run a.list.now a.memory a.allowed (record { engine = a.from; handles = a.handles.now }) in
+    let r : Ran = run a.list.now a.memory a.allowed (record { engine = a.self.now; handles = a.handles.now }) in
     let k : a.allowed - a.allowed + r.count ≡ r.count = omega arith in
     (search rules, (search (rules, long), rw k))
 
