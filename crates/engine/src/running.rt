@@ -6,7 +6,7 @@ ghost use Rattle.std.specs.Iterator.{YieldsFirst, item_count};
 
 use crate::handles::Handles;
 use crate::kept::Engine;
-use crate::run::{Find, Stop};
+use crate::run::{Find, Stop, advance};
 use crate::screen::Screen;
 use action::Action;
 
@@ -39,8 +39,7 @@ pub fn finish(list: &[u8], memory: u32, limit: u32) -> Ending
     ensures { result ≡ ending_of (run_of list.now memory limit) }
 {
     let mut handles = Handles::new();
-    let mut engine = Engine::start();
-    let advanced = engine.advance(&mut handles, list, memory, limit, false);
+    let advanced = advance(Engine::start(), &mut handles, list, memory, limit, false);
     match advanced.find {
         // Actions are not asked for, so that none is found.
         Find::Drew(_) => Ending {

@@ -107,7 +107,8 @@ impl<'a, 'k> Painter<'a, 'k> {
     }
 
     // Paints of so many rows, from `first` on, those that are wanted, each into its part of the runs, and leaves every
-    // other row.
+    // other row. Never inlined: a row in work takes room of the stack.
+    #[inline(never)]
     fn paint<W: Fn(usize) -> bool>(
         &self,
         first: u32,

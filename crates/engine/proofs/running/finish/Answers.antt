@@ -14,4 +14,4 @@ returns-in-Drew c =
 pub returns-in-Over : goal.returns-in-Over
 returns-in-Over c =
     let h = c.advance-advanced.ensures in
-    rw (← c.start-engine.ensures, ← c.new-handles.ensures) (ending _ _ _ _ _ _ h _ c.in-Over.is)
+    rw (← c.start.ensures, ← c.new-handles.ensures) (ending _ _ _ _ _ _ h _ c.in-Over.is)
