@@ -10,7 +10,7 @@ use Rattle.action.specs.declared.Action.{Action}
 use Rattle.pixel.specs.declared.Pixel.{Pixel}
 use Rattle.units.specs.Units.{pixel_at}
 use Rattle.paint.specs.Picture.{blank, colours_of, drawn_by, pixel_of, tags_of}
-use Rattle.paint.specs.Runs.{Blank, DrawnAll, pixel_in, pixels}
+use Rattle.paint.specs.Runs.{BlankUpTo, DrawnAll, pixel_in, pixels}
 use Rattle.paint.specs.declared.row.Row.{Row}
 use Rattle.paint.proofs.Points.{same-pixel}
 
@@ -63,6 +63,6 @@ tags-same f g (suc width) h = rw (tags-same f g width (λ x l. h x (omega arith)
 
 -- the pixels of a row drawn from zeros
 pub drawn-row :
-    (memory : List ℕ) (actions : List Action) (width y : ℕ) (start row : Row) → Blank start →
+    (memory : List ℕ) (actions : List Action) (width y : ℕ) (start row : Row) → BlankUpTo width start →
     DrawnAll memory actions width (pixel_at y) (pixels start) (pixels row) → (x : ℕ) → x < width → pixels row x ≡ pixel_of memory actions y x
-drawn-row memory actions width y start row zeros drawn x h = drawn x h ∙ ap (drawn_by memory actions (pixel_at x) (pixel_at y)) (zeros x)
+drawn-row memory actions width y start row zeros drawn x h = drawn x h ∙ ap (drawn_by memory actions (pixel_at x) (pixel_at y)) (zeros x h)

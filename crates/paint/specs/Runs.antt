@@ -39,6 +39,9 @@ pixels row = pixel_in row.colours row.tags row.alpha row.stencil
 abbrev pub Blank : Row → Type 0
 Blank row = (x : ℕ) → pixels row x ≡ blank
 
+abbrev pub BlankUpTo : ℕ → Row → Type 0
+BlankUpTo width row = (x : ℕ) → x < width → pixels row x ≡ blank
+
 -- the runs of so many rows of this width, which is one that a frame may have
 abbrev pub HoldRows : ℕ → ℕ → List ℕ → List ℕ → Type 0
 HoldRows width count picture tags =

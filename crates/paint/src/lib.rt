@@ -41,7 +41,7 @@ impl<'a> Painter<'a> {
     {
         let kept = self.kept;
         for k in 0..count {
-            let band = kept.bands[k];
+            let band = &kept.bands[k];
             if (band.top <= y) & (y < band.bottom) {
                 let action = store::get(k, &kept.numbers, &kept.places);
                 row.draw(action, Pixels::of(y), self.screen.memory, self.width);
@@ -65,8 +65,8 @@ impl<'a> Painter<'a> {
         }
     }
 
-    // Row y, from 0: nothing of what was lent is left.
-    fn paint_row(&self, y: u32, picture: &mut [u8], tags: &mut [u8])
+    // Row y, from 0: nothing of what was lent is left, nor of what was in work before.
+    fn paint_row(&self, y: u32, row: &mut Row, picture: &mut [u8], tags: &mut [u8])
         requires { (y < tallest)
             × ((length picture.old ≡ 3 * self.now.width) × (length tags.old ≡ self.now.width)) }
         ensures picture_after { picture.new ≡ row_colours
@@ -80,10 +80,10 @@ impl<'a> Painter<'a> {
             self.now.width
             y }
     {
-        let mut row = Row::blank();
+        row.restart(self.width as usize);
         match self.kept.count {
-            Some(count) => self.draw_kept(count, y, &mut row),
-            None => self.draw_list(y, &mut row),
+            Some(count) => self.draw_kept(count, y, row),
+            None => self.draw_list(y, row),
         }
         row.lay(picture, tags);
     }
@@ -122,12 +122,14 @@ fn paint_wanted<W: Fn(usize) -> bool>(
         kept: &kept,
     };
     let wide = width as usize;
+    let mut row = Row::blank();
     for y in 0..count {
         if is_wanted(y) {
             let a = y * (3 * wide);
             let b = y * wide;
             painter.paint_row(
                 first + y as u32,
+                &mut row,
                 &mut picture[a..a + 3 * wide],
                 &mut tags[b..b + wide],
             );

@@ -6,7 +6,7 @@ ghost use Rattle.shape.specs.Cover.{between, outline_of, reaches};
 ghost use Rattle.shape.specs.OneRow.{InFrame, has_column};
 ghost use Rattle.units.specs.Units.{pixel_at, widest};
 ghost use Rattle.paint.specs.Picture.{colours_of, tags_of};
-ghost use Rattle.paint.specs.Runs.{Blank, Does, Drawn, PlainDrawing, Swept, Touched, inked, pixels, texel_in};
+ghost use Rattle.paint.specs.Runs.{Blank, BlankUpTo, Does, Drawn, PlainDrawing, Swept, Touched, inked, pixels, texel_in};
 
 use action::{Action, Bitmap, Colour, Drawing, Ink, Masks};
 use pixel::{Fill, Pixel, Plain};
@@ -14,6 +14,9 @@ use shape::{Chord, reach};
 use units::{Pixels, WIDEST};
 
 const COLUMNS: usize = WIDEST as usize;
+
+// So few pixels are written sooner than copied.
+const FEW: usize = 16;
 
 // Red, green and blue of each pixel, and its tag, alpha and stencil.
 #[derive(Drop)]
@@ -95,6 +98,18 @@ impl Row {
         }
     }
 
+    // Begins another row: its first pixels, as many as a frame of this width has, are zeros. What lies behind them stays,
+    // so that a narrow frame's row costs what it has.
+    pub fn restart(&mut self, width: usize)
+        requires { width ≤ widest }
+        ensures { BlankUpTo width self.new }
+    {
+        self.colours[..3 * width].fill(0);
+        self.tags[..width].fill(0);
+        self.alpha[..width].fill(0);
+        self.stencil[..width].fill(0);
+    }
+
     #[tactic(auto, unfolding(crate::specs::Runs::pixel_in))]
     fn pixel(&self, x: usize) -> Pixel
         requires { x < widest }
@@ -154,18 +169,25 @@ impl Row {
         });
     }
 
-    // Their stencil stays.
+    // Their stencil stays. The first colours are written one by one, and the others copied from those that stand.
     fn fill(&mut self, from: usize, to: usize, with: Fill)
         requires { (from ≤ to) × (to ≤ widest) }
         ensures { Swept from to (λ _. filled with) (pixels self.old) (pixels self.new) }
     {
-        self.tags[from..to].fill(with.tag);
-        self.alpha[from..to].fill(with.alpha);
-        for x in from..to {
+        let mut done = to.min(from + FEW);
+        for x in from..done {
             self.colours[3 * x] = with.red;
             self.colours[3 * x + 1] = with.green;
             self.colours[3 * x + 2] = with.blue;
         }
+        while done < to {
+            let more = (done - from).min(to - done);
+            self.colours
+                .copy_within(3 * from..3 * (from + more), 3 * done);
+            done += more;
+        }
+        self.tags[from..to].fill(with.tag);
+        self.alpha[from..to].fill(with.alpha);
     }
 
     fn wipe(&mut self, from: usize, to: usize, with: Pixel)

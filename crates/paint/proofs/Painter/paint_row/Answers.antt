@@ -12,10 +12,10 @@ draw_kept-requires-clause-all c = c.args.self.now.ready.1 _ c.in-Some.is
 pub returns : goal.returns
 returns c =
     let s = c.args.self.now in
-    let drawn : DrawnAll s.screen.now.memory.now (actions_in s.screen.now) s.width (pixel_at c.args.y) (pixels c.blank-row.result) (pixels c.match-self.row) =
+    let drawn : DrawnAll s.screen.now.memory.now (actions_in s.screen.now) s.width (pixel_at c.args.y) (pixels c.restart.new.self) (pixels c.match-self.row) =
     elim c.match-self.branch [ in-Some w ↦ rw w.row-is w.draw_kept.ensures | in-None w ↦ rw w.row-is w.draw_list.ensures ]
     in
-    let at = drawn-row _ _ _ _ _ _ c.blank-row.ensures drawn in
+    let at = drawn-row _ _ _ _ _ _ c.restart.ensures drawn in
     record {
       picture_after = c.lay.ensures.picture_after ∙ rw c.requires.1.1 (colours-same _ _ _ at);
       tags_after = c.lay.ensures.tags_after ∙ rw c.requires.1.1 (tags-same _ _ _ at);
