@@ -57,7 +57,8 @@ fn texel_at(bitmap: Option<Bitmap>, p: Pixels, q: Pixels, memory: &[u8]) -> Colo
 }
 
 // The columns of a frame of this width that the chord holds, from the one on and before the other. They lie together:
-// those that are not held are passed over from both ends, and none in between needs to be asked about.
+// those that are not held are passed over from both ends, and none in between needs to be asked about. A flat chord, such
+// as a CLEAR's, holds them all.
 fn columns(chord: Chord, width: u32) -> (usize, usize)
     requires { width ≤ widest }
     ensures exact { (k : ℕ) → k < width → has_column chord (pixel_at k) ≡ between result.0 result.1 k }
@@ -65,6 +66,9 @@ fn columns(chord: Chord, width: u32) -> (usize, usize)
 {
     let mut from = chord.left.before(width);
     let mut to = from.max(chord.right.before(width));
+    if chord.is_flat() {
+        return (from as usize, to as usize);
+    }
     while from < to && !chord.holds(Pixels::of(from)) {
         from += 1;
     }
