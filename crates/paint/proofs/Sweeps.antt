@@ -9,6 +9,7 @@ use native.Mathlib.Omega.{arith}
 use lib.Dec.{leb, ltb}
 use lib.ListN.{length, get_or, take, drop, replicate}
 use borrow.Author.Tests.{lt-ltb, ltb-true, ltb-false, leb-true, leb-false}
+use Rattle.std.specs.List.{CopiedTo, SameBelow, SameFrom}
 use Rattle.std.proofs.Common.{rules}
 use Rattle.std.proofs.lemmas.Bool.{both_ways, cases_lt}
 use Rattle.std.proofs.lemmas.List.{places}
@@ -73,18 +74,60 @@ pub flooded-first :
     get_or (part ++ drop to run) k 0 ≡ byte
 flooded-first to byte run part high e k l = rw e (search (rules, places))
 
--- a row whose tags and alpha were filled and whose colours were then swept
+-- a row whose colours were swept and whose tags and alpha were then filled
 pub swept-filled :
-    (from to : ℕ) (with : Fill) (colours stencil : List ℕ) {tags alpha tags' alpha' : List ℕ} {now : ℕ → Pixel} →
-    Flooded from to with.tag tags tags' → Flooded from to with.alpha alpha alpha' →
-    Swept from to (λ _. tinted with) (pixel_in colours tags' alpha' stencil) now →
-    Swept from to (λ _. filled with) (pixel_in colours tags alpha stencil) now
+    (from to : ℕ) (with : Fill) (colours stencil : List ℕ) {tags alpha tags' alpha' : List ℕ} {old : ℕ → Pixel} →
+    Swept from to (λ _. tinted with) old (pixel_in colours tags alpha stencil) → Flooded from to with.tag tags tags' → Flooded from to with.alpha alpha alpha' →
+    Swept from to (λ _. filled with) old (pixel_in colours tags' alpha' stencil)
 unfolding pixel_in tinted filled
-swept-filled from to with colours stencil t a swept =
+swept-filled from to with colours stencil swept t a =
     record {
-      inside = λ k h l. swept.inside k h l ∙ same-pixel _ _ refl refl refl (a.inside k h l) refl (t.inside k h l);
-      outside = λ k h. swept.outside k h ∙ same-pixel _ _ refl refl refl (a.outside k h) refl (t.outside k h);
+      inside =
+          λ k h l.
+          let s = swept.inside k h l in
+          same-pixel _ _ (ap (λ (p : Pixel). p.red) s) (ap (λ (p : Pixel). p.green) s) (ap (λ (p : Pixel). p.blue) s) (a.inside k h l) (ap (λ (p : Pixel). p.stencil) s) (t.inside k h l);
+      outside =
+          λ k h.
+          let s = swept.outside k h in
+          same-pixel _ _ (ap (λ (p : Pixel). p.red) s) (ap (λ (p : Pixel). p.green) s) (ap (λ (p : Pixel). p.blue) s)
+          (a.outside k h ∙ ap (λ (p : Pixel). p.alpha) s)
+          (ap (λ (p : Pixel). p.stencil) s)
+          (t.outside k h ∙ ap (λ (p : Pixel). p.tag) s);
     }
+
+-- more colours of one kind, copied from those that stand
+pub swept-copied :
+    (from done more : ℕ) (with : Fill) (colours colours' tags alpha stencil : List ℕ) {old : ℕ → Pixel} → from + more ≤ done →
+    CopiedTo colours colours' (3 * from) (3 * done) (3 * (from + more) - 3 * from) → SameBelow colours colours' (3 * done) →
+    SameFrom colours colours' (3 * done + (3 * (from + more) - 3 * from)) →
+    Swept from done (λ _. tinted with) old (pixel_in colours tags alpha stencil) →
+    Swept from (done + more) (λ _. tinted with) old (pixel_in colours' tags alpha stencil)
+unfolding pixel_in tinted
+swept-copied from done more with colours colours' tags alpha stencil {old} room copied below above swept =
+    record {
+      inside = λ k h l. ⊎_elim (λ (b : k < done). stays k (λ i u. below i 0 (omega arith)) ∙ swept.inside k h b) (λ (b : done ≤ k). copy k b l) (cases_lt k done);
+      outside = λ k h. ⊎_elim (λ (b : k < from). stays k (λ i u. below i 0 (omega arith)) ∙ swept.outside k (inl b)) (λ (b : done + more ≤ k). stays k (λ i u. above i 0 (omega arith)) ∙ swept.outside k (inr (omega arith))) h;
+    }
+  where
+    stays : (k : ℕ) → ((i : ℕ) → (3 * k ≤ i) × (i < 3 * k + 3) → get_or colours' i 0 ≡ get_or colours i 0) → pixel_in colours' tags alpha stencil k ≡ pixel_in colours tags alpha stencil k
+    stays k same = same-pixel _ _ (same (3 * k) (omega arith)) (same (3 * k + 1) (omega arith)) (same (3 * k + 2) (omega arith)) refl refl refl
+
+    first : (k : ℕ) → done ≤ k → 3 * from + (3 * k - 3 * done) ≡ 3 * (from + (k - done))
+    first k b = omega arith
+
+    next : (k c : ℕ) → done ≤ k → 3 * from + (3 * k + c - 3 * done) ≡ 3 * (from + (k - done)) + c
+    next k c b = omega arith
+
+    copy : (k : ℕ) → done ≤ k → k < done + more → pixel_in colours' tags alpha stencil k ≡ tinted with (old k)
+    copy k b l =
+        let from_there = swept.inside (from + (k - done)) (omega arith) (omega arith) in
+        let before = swept.outside k (inr b) in
+        same-pixel _ _ (copied (3 * k) 0 (omega arith) (omega arith) ∙ rw (first k b) (ap (λ (p : Pixel). p.red) from_there))
+        (copied (3 * k + 1) 0 (omega arith) (omega arith) ∙ rw (next k 1 b) (ap (λ (p : Pixel). p.green) from_there))
+        (copied (3 * k + 2) 0 (omega arith) (omega arith) ∙ rw (next k 2 b) (ap (λ (p : Pixel). p.blue) from_there))
+        (ap (λ (p : Pixel). p.alpha) before)
+        (ap (λ (p : Pixel). p.stencil) before)
+        (ap (λ (p : Pixel). p.tag) before)
 
 -- a row whose stencil was filled and then all else
 pub swept-wiped :

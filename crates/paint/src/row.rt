@@ -15,6 +15,9 @@ use units::{Pixels, WIDEST};
 
 const COLUMNS: usize = WIDEST as usize;
 
+// So few pixels are written sooner than copied.
+const FEW: usize = 16;
+
 // Red, green and blue of each pixel, and its tag, alpha and stencil.
 #[derive(Drop)]
 pub struct Row {
@@ -54,7 +57,8 @@ fn texel_at(bitmap: Option<Bitmap>, p: Pixels, q: Pixels, memory: &[u8]) -> Colo
 }
 
 // The columns of a frame of this width that the chord holds, from the one on and before the other. They lie together:
-// those that are not held are passed over from both ends, and none in between needs to be asked about.
+// those that are not held are passed over from both ends, and none in between needs to be asked about. A flat chord, such
+// as a CLEAR's, holds them all.
 fn columns(chord: Chord, width: u32) -> (usize, usize)
     requires { width ≤ widest }
     ensures exact { (k : ℕ) → k < width → has_column chord (pixel_at k) ≡ between result.0 result.1 k }
@@ -62,6 +66,9 @@ fn columns(chord: Chord, width: u32) -> (usize, usize)
 {
     let mut from = chord.left.before(width);
     let mut to = from.max(chord.right.before(width));
+    if chord.is_flat() {
+        return (from as usize, to as usize);
+    }
     while from < to && !chord.holds(Pixels::of(from)) {
         from += 1;
     }
@@ -166,18 +173,25 @@ impl Row {
         });
     }
 
-    // Their stencil stays.
+    // Their stencil stays. The first colours are written one by one, and the others copied from those that stand.
     fn fill(&mut self, from: usize, to: usize, with: Fill)
         requires { (from ≤ to) × (to ≤ widest) }
         ensures { Swept from to (λ _. filled with) (pixels self.old) (pixels self.new) }
     {
-        self.tags[from..to].fill(with.tag);
-        self.alpha[from..to].fill(with.alpha);
-        for x in from..to {
+        let mut done = to.min(from + FEW);
+        for x in from..done {
             self.colours[3 * x] = with.red;
             self.colours[3 * x + 1] = with.green;
             self.colours[3 * x + 2] = with.blue;
         }
+        while done < to {
+            let more = (done - from).min(to - done);
+            self.colours
+                .copy_within(3 * from..3 * (from + more), 3 * done);
+            done += more;
+        }
+        self.tags[from..to].fill(with.tag);
+        self.alpha[from..to].fill(with.alpha);
     }
 
     fn wipe(&mut self, from: usize, to: usize, with: Pixel)

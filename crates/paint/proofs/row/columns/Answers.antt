@@ -10,6 +10,19 @@ use native.Mathlib.Omega.{arith}
 use Rattle.paint.proofs.row.columns.Goals as goal
 use Rattle.paint.proofs.row.columns.Goals.{then-loop-from-test+else-not-holds, else-loop-from-test, then-loop-to-test+else-not-holds-2, else-loop-to-test}
 
+pub returns-then-is_flat-clause-exact : goal.returns-then-is_flat-clause-exact
+returns-then-is_flat-clause-exact c =
+    let chord = c.args.chord in
+    let from = c.before-from.result in
+    let to = c.max-to.result in
+    let left = count_before c.args.width chord.left in
+    let right = count_before c.args.width chord.right in
+    let ended : (to ≤ right) ⊎ (to ≤ left) =
+    ⊎_elim (λ (b : left < right). inl (omega arith)) (λ (b : right ≤ left). inr (omega arith)) (cases_lt left right) in
+    let held = c.is_flat.ensures.all c.if-is_flat.true in
+    exact-columns chord c.args.width from to {end = to} (omega arith) (omega arith) ended
+    (λ k h l. absurd (omega arith)) (λ k h l. absurd (omega arith)) (omega arith) (inr (held (pixel_at from) (omega arith), held (pixel_at (to - 1)) (omega arith)))
+
 pub returns-clause-exact : goal.returns-clause-exact
 returns-clause-exact c =
     let chord = c.args.chord in
