@@ -41,6 +41,7 @@ impl<'a, 'k> Painter<'a, 'k> {
             (pixels row.new) }
     {
         for k in 0..count {
+            // Read where it lies: to copy both numbers costs more than to pass over the action.
             let band = &kept.bands[k];
             if (band.top <= y) & (y < band.bottom) {
                 let action = store::get(k, &kept.numbers, &kept.places);
