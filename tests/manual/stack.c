@@ -29,8 +29,8 @@ static void put_word(uint8_t *bytes, size_t at, uint32_t bits)
         bytes[at + n] = (uint8_t)(bits >> 8 * n);
 }
 
-/* The first half are points, the rest is a strip. Of the longest lists the painter keeps no action, and runs them again
-   for each row; of half as long ones it keeps all. */
+/* The first half are points, the rest is a strip. Of the longest lists the painter keeps none for good, and runs the list
+   again for each row; of half as long ones it keeps all. */
 static const size_t list_lengths[] = { JV_MAX_LIST_BYTES / 2, JV_MAX_LIST_BYTES };
 
 static void make_list(uint8_t *list, uint32_t size)

@@ -79,7 +79,8 @@ linked m v primitive next None = record { machine = with_corner m (Some (end_at 
 linked m v primitive next (Some from) =
     record { machine = with_corner m next; event = segmented (segment_from from v m.context.placing.linewidth primitive) }
 
--- 'In LINES vertices pair up; in a strip each vertex after the first ends a segment'. No primitive begun is 17
+-- 'In LINES vertices pair up; in a strip each vertex after the first ends a segment'. No primitive begun is 17. The
+-- guide, 4.5 BEGIN, table 9: "LINES 3" and "LINE_STRIP 4"
 abbrev pub drawn_by : Machine → Handles → ℕ → Vertex → Option Primitive → Stepped
 drawn_by m hs memory v (Some p.Bitmaps) = record { machine = m; event = bitmapped (bitmap_at hs v memory) }
 drawn_by m hs memory v (Some p.Points) = record { machine = m; event = pointed v m.context.placing.pointsize }

@@ -40,8 +40,8 @@ pub struct Settings {
     pub size_high: Size,
 }
 
-// The settings of the 32 handles. The field is public, so that who calls `advance` can start with any settings and read
-// them afterwards.
+// The settings of the 32 handles. The field is public, so that whoever calls `advance` can start with any settings and
+// read them afterwards.
 #[derive(Clone, Copy)]
 pub struct Handles(pub [Settings; 32]);
 

@@ -12,6 +12,11 @@ use crate::machine::{Event, Machine, Shape, Stepped};
 use action::{End, Point, Rectangle, Segment};
 use units::{LengthInSixteenths, Pixels, Sixteenths};
 
+// BEGIN's numbers of the two primitives whose vertices end segments, as an action has them.
+const LINES: u32 = 3;
+
+const LINE_STRIP: u32 = 4;
+
 // A vertex placed on the screen, with the handle and cell that it draws if BITMAPS is begun.
 #[derive(Clone, Copy)]
 pub struct Vertex {
@@ -126,14 +131,14 @@ impl Machine {
             Some(Primitive::Bitmaps) => bitmap_event(handles, v, memory),
             Some(Primitive::Points) => point_event(v, self.context.placing.pointsize),
             Some(Primitive::Lines) => match self.corner.take() {
-                Some(from) => segment_event(from, v, width, 3),
+                Some(from) => segment_event(from, v, width, LINES),
                 None => {
                     self.corner = Some(v.end());
                     Event::Quiet
                 }
             },
             Some(Primitive::LineStrip) => match self.corner.replace(v.end()) {
-                Some(from) => segment_event(from, v, width, 4),
+                Some(from) => segment_event(from, v, width, LINE_STRIP),
                 None => Event::Quiet,
             },
             Some(Primitive::Rects) => match self.corner.take() {

@@ -22,8 +22,8 @@ pub record NamedBrush (b : Brush) : Type 0 where
   pub source : factor_number (factor_of b.source) ≡ b.source
   pub target : factor_number (factor_of b.target) ≡ b.target
 
--- and each layout's number that of the format, and so the number of each handle that a vertex draws with: row 13 refuses the formats that are not
--- drawn
+-- and each layout's number that of the format, and so that of each handle that a vertex draws with: row 13 refuses
+-- the formats that are not drawn
 pub record NamedFormats (hs : Handles) : Type 0 where
   pub format : (handle : ℕ) (layout : Layout) → (settings_at hs handle).layout ≡ Some layout → format_number (format_of layout.format) ≡ layout.format
   pub drawn-with : (handle : ℕ) (h : Handle) → handle_at hs handle ≡ Some h → format_number (format_of h.format) ≡ h.format

@@ -36,10 +36,11 @@ pixel_in picture tags alpha stencil x =
 abbrev pub pixels : Row → ℕ → Pixel
 pixels row = pixel_in row.colours row.tags row.alpha row.stencil
 
--- 'started at zero for every row'
+-- a row as it is made
 abbrev pub Blank : Row → Type 0
 Blank row = (x : ℕ) → pixels row x ≡ blank
 
+-- 'started at zero for every row'
 abbrev pub BlankUpTo : ℕ → Row → Type 0
 BlankUpTo width row = (x : ℕ) → x < width → pixels row x ≡ blank
 

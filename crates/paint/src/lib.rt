@@ -2,13 +2,13 @@
 // actions that reach it.
 #![tactic(auto)]
 
-ghost use Rattle.std.specs.Prelude.{Bool, true, false, ℕ, ◌≡◌, ◌<◌, ◌≤◌, ◌+◌, ◌*◌, length};
+ghost use Rattle.std.specs.Prelude.{true, false, ℕ, ◌≡◌, ◌<◌, ◌≤◌, ◌+◌, ◌*◌, length};
+ghost use Rattle.std.specs.Option.{option_copied};
 ghost use Rattle.engine.specs.Running.{actions_in};
-ghost use Rattle.units.specs.Units.{pixel_at, tallest, widest};
+ghost use Rattle.units.specs.Units.{pixel_at, tallest};
 ghost use Rattle.paint.specs.Actions.{KeepsAll};
 ghost use Rattle.paint.specs.Picture.{colours_from, tags_from, patched, row_colours, row_tags};
 ghost use Rattle.paint.specs.Runs.{DrawnAll, HoldRows, Paints, Ready, pixels};
-ghost use Rattle.std.specs.Option.{option_copied};
 
 mod kept;
 mod row;
@@ -67,7 +67,7 @@ impl<'a, 'k> Painter<'a, 'k> {
         }
     }
 
-    // Draws all actions of the list into row y.
+    // Draws all actions of the list into row y. No painter is made with kept actions that are not all.
     fn draw(&self, y: u32, row: &mut Row)
         requires { y < tallest }
         ensures { DrawnAll
@@ -149,8 +149,8 @@ impl<'a, 'k> Painter<'a, 'k> {
     }
 }
 
-// Paints them out of the kept actions, where there is room for all; else nothing is painted. Never inlined: the room that
-// the actions take of the stack is given back.
+// Paints the rows that are wanted out of the kept actions, and tells so; where there is no room for all actions, paints
+// nothing. Never inlined: the room that the actions take of the stack is given back.
 #[inline(never)]
 fn paint_kept<W: Fn(usize) -> bool>(
     screen: &Screen,
@@ -181,18 +181,16 @@ fn paint_kept<W: Fn(usize) -> bool>(
     if kept.count.is_none() {
         return false;
     }
-    let actions = Some(&kept);
     let painter = Painter {
-        screen: &*screen,
+        screen,
         width,
-        kept: actions,
+        kept: Some(&kept),
     };
-    painter.paint(first, count, &*is_wanted, picture, tags);
+    painter.paint(first, count, is_wanted, picture, tags);
     true
 }
 
-// Paints of so many rows, from `first` on, those that are wanted, each into its part of the runs, and leaves every other
-// row.
+// The same of a list: out of its kept actions, or, where there are too many, by a run of the list for each row.
 fn paint_wanted<W: Fn(usize) -> bool>(
     screen: &Screen,
     width: u32,
@@ -218,7 +216,7 @@ fn paint_wanted<W: Fn(usize) -> bool>(
 {
     if !paint_kept(screen, width, first, count, &is_wanted, picture, tags) {
         let painter = Painter {
-            screen: &*screen,
+            screen,
             width,
             kept: None,
         };

@@ -1,5 +1,5 @@
 // One row in work, and one action drawn into it. `draw` shows the order: whether the action does the same to every pixel
-// that it covers, and which columns it reaches, unless it does nothing; if not the same, they are drawn one by one.
+// that it covers; which columns it reaches, unless it does nothing; and, where pixels differ, these one by one.
 ghost use Rattle.std.specs.Prelude.{ℕ, ◌≡◌, ◌<◌, ◌≤◌, ◌*◌, length};
 ghost use Rattle.pixel.specs.Plain.{filled};
 ghost use Rattle.shape.specs.Cover.{between, outline_of, reaches};
@@ -15,7 +15,7 @@ use units::{Pixels, WIDEST};
 
 const COLUMNS: usize = WIDEST as usize;
 
-// So few pixels are written sooner than copied.
+// How many pixels are written one by one: so few are written faster than copied.
 const FEW: usize = 16;
 
 // Red, green and blue of each pixel, and its tag, alpha and stencil.
@@ -173,7 +173,7 @@ impl Row {
         });
     }
 
-    // Their stencil stays. The first colours are written one by one, and the others copied from those that stand.
+    // Fills the columns; their stencil stays. The first colours are written one by one, the others copied from those.
     fn fill(&mut self, from: usize, to: usize, with: Fill)
         requires { (from ≤ to) × (to ≤ widest) }
         ensures { Swept from to (λ _. filled with) (pixels self.old) (pixels self.new) }

@@ -1,2 +1,3 @@
+mod Decimals
 pub mod Printing
 pub mod Showing

@@ -1,7 +1,8 @@
--- A number's text by its last digit, and how long the texts are.
+-- A number's text as std writes it, and how long the texts are.
 use Rattle.std.proofs.Common.{◌≡◌, refl, sym, ℕ, zero, suc, ◌+◌, ◌*◌, ◌/◌, ◌%◌, ◌^◌, ◌<◌, ◌≤◌, List, [], ◌∷◌, ◌++◌, length, length-append, arith, rules}
 use Rattle.std.specs.Fmt.{decimal}
 use Rattle.std.proofs.lemmas.Fmt.{AppendsLastDigit, decimal_digit, decimal_from_appends, decimal_step, length-decimal-le}
+use Rattle.rowshow.proofs.Decimals.{decimal-short}
 use Rattle.rowshow.specs.Text.{decimal_text, decimal_within, hex_text, pixel_text_at, pixels_after}
 
 -- decimal_within, by how many digits hold the number
@@ -28,17 +29,6 @@ decimal_printed n small =
     let short = length-decimal-le 10 n (omega arith) (omega arith) (omega arith) in
     sym (decimal_from_appends within appends 10 n (omega arith) short)
 
-pub one_digit : (n : ℕ) → n < 10 → decimal_text n ≡ (48 + n) ∷ []
-one_digit n small = rw (← decimal_printed n (omega arith)) (decimal_digit n small)
-
-pub last_digit : (n : ℕ) → 10 ≤ n → n < 2 ^ 32 → decimal_text n ≡ decimal_text (n / 10) ++ ((48 + n % 10) ∷ [])
-last_digit n large small =
-    rw (← decimal_printed n small, ← decimal_printed (n / 10) (omega arith)) (decimal_step n large (omega arith))
-
-pub decimal-short : (n : ℕ) → n < 2 ^ 32 → length (decimal_text n) ≤ 10
-decimal-short n small =
-    rw (← decimal_printed n small) (length-decimal-le 10 n (omega arith) (omega arith) (omega arith))
-
 pub pixel-long : (picture tags : List ℕ) (k : ℕ) → length (pixel_text_at picture tags k) ≡ 9
 unfolding hex_text
 pixel-long picture tags k = refl
@@ -53,6 +43,6 @@ others-long picture tags (suc k) =
       pixel-long picture tags (suc k),
     )
 
-pub ruleset decimal_steps = (one_digit, last_digit, decimal-short, length-append)
+pub ruleset decimal_steps = (decimal-short, length-append)
 
 pub ruleset row_lengths = (pixel-long, others-long, length-append)

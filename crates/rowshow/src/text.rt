@@ -40,15 +40,13 @@ fn put_word(text: &mut Text, word: &[u8])
     }
 }
 
-#[tactic(auto, using(crate::proofs::Printing::decimal_steps))]
 fn put_decimal(text: &mut Text, number: u32)
     requires { array_vec_len text.old + length (decimal_text number) ≤ 64 }
     ensures { Extends text.old (decimal_text number) text.new }
 {
-    if number >= 10 {
-        put_decimal(text, number / 10);
-    }
-    text.push(b'0' + (number % 10) as u8);
+    let mut digits = [0u8; 20];
+    let count = io::decimal(number as u64, &mut digits);
+    put_word(text, &digits[..count]);
 }
 
 // A word, and a number behind it.
