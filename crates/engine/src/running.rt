@@ -33,7 +33,9 @@ impl Ending {
     }
 }
 
-// Runs a list from its start to its end or fault, where RAM_G has so many bytes.
+// Runs a list from its start to its end or fault, where RAM_G has so many bytes. Never inlined: the room that a run takes
+// of the stack is given back to who paints next.
+#[inline(never)]
 pub fn finish(list: &[u8], memory: u32, limit: u32) -> Ending
     requires { WithinLimits list.now memory }
     ensures { result ≡ ending_of (run_of list.now memory limit) }

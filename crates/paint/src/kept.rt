@@ -40,7 +40,9 @@ impl Kept {
         store::put(action, k, &mut self.numbers, &mut self.places);
     }
 
-    // Runs the screen's list from its start and keeps its actions, as many as there is room for.
+    // Runs the screen's list from its start and keeps its actions, as many as there is room for. Never inlined: the room
+    // that the run takes of the stack is given back before rows are painted.
+    #[inline(never)]
     pub fn gather(&mut self, screen: &Screen)
         ensures { Gathers (actions_in screen.now) self.new }
     {
